@@ -1,0 +1,71 @@
+-- A choice follows from its test; all of a list's tests, from the one; sums and tests up to n, one step at a time.
+-- Assumes nothing.
+use Prim.Native.Nat.{ℕ, zero, suc, _+_, _*_, _<_, _≤_}
+use mathlib.Core.Logic.{⊎-elim}
+use native.Mathlib.Numerals.{add-one}
+use native.Mathlib.Nat.{not-suc-le-zero, eq-or-lt-of-le, le-of-suc-le-suc}
+use native.Mathlib.Omega.{arith}
+use mathlib.Core.Path.{_≡_, refl, sym, subst}
+use mathlib.Core.Bool.{Bool, true, false, _&&_}
+use mathlib.Core.List.{List, [], _∷_}
+use lib.Dec.{T}
+use lib.ListN.{getD}
+use Rattle.sums.specs.Choice.{if_then_else, allFrom, allOf, allTo, sumTo}
+
+pub yes : {A : Type 0} (t : Bool) (r a b : A) → t ≡ true → r ≡ a → r ≡ if_then_else t a b
+unfolding if_then_else
+yes t r a b h e = simp h e
+
+pub no : {A : Type 0} (t : Bool) (r a b : A) → t ≡ false → r ≡ b → r ≡ if_then_else t a b
+unfolding if_then_else
+no t r a b h e = simp h e
+
+-- what holds of both outcomes
+pub both : {A : Type 0} (P : A → Type 0) (t : Bool) {a b : A} → P a → P b → P (if_then_else t a b)
+unfolding if_then_else
+both P true p q = p
+both P false p q = q
+
+pub left : (a b : Bool) → (a && b) ≡ true → a ≡ true
+left true b h = refl
+left false b h = h
+
+pub right : (a b : Bool) → (a && b) ≡ true → b ≡ true
+right true b h = h
+right false b h = absurd (subst T (sym h) tt)
+
+first : (b : Bool) (ts : List Bool) → allFrom b ts ≡ true → b ≡ true
+first b [] h = h
+first b (t ∷ ts) h = left b t (first (b && t) ts h)
+
+from : (b : Bool) (ts : List Bool) → allFrom b ts ≡ true → (k : ℕ) → getD ts k true ≡ true
+from b [] h k = refl
+from b (t ∷ ts) h zero = right b t (first (b && t) ts h)
+from b (t ∷ ts) h (suc k) = from (b && t) ts h k
+
+-- the test at each place of a list whose tests all hold
+pub nth : (ts : List Bool) → allOf ts ≡ true → (k : ℕ) → getD ts k true ≡ true
+nth = from true
+
+pub allTo-step : (n : ℕ) (f : ℕ → Bool) → allTo (n + 1) f ≡ (allTo n f && f n)
+unfolding allTo
+allTo-step n f = rw add-one
+
+pub allTo-at : (n : ℕ) (f : ℕ → Bool) → allTo n f ≡ true → (k : ℕ) → k < n → f k ≡ true
+unfolding allTo
+allTo-at zero f h k p = absurd (not-suc-le-zero p)
+allTo-at (suc n) f h k p =
+    ⊎-elim (λ (e : k ≡ n). rw e (right (allTo n f) (f n) h)) (λ (q : k < n). allTo-at n f (left (allTo n f) (f n) h) k q)
+    (eq-or-lt-of-le (le-of-suc-le-suc p))
+
+pub sumTo-step : (n : ℕ) (f : ℕ → ℕ) → sumTo (n + 1) f ≡ sumTo n f + f n
+unfolding sumTo
+sumTo-step n f = rw add-one
+
+pub sumTo-bound : (b : ℕ) (f : ℕ → ℕ) (n : ℕ) → ((i : ℕ) → i < n → f i ≤ b) → sumTo n f ≤ n * b
+unfolding sumTo
+sumTo-bound b f zero h = omega arith
+sumTo-bound b f (suc n) h =
+    let e = sumTo-bound b f n (λ (i : ℕ) (p : i < n). h i (omega arith)) in
+    let l = h n (omega arith) in
+    omega arith

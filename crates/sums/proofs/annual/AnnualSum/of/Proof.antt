@@ -1,0 +1,7 @@
+-- The mixed number's own.
+use borrow.Author.Needs.{needs}
+use Rattle.sums.proofs.annual.AnnualSum.of.Statement.{statement}
+use Rattle.sums.proofs.annual.AnnualSum.of.Tie as tie
+
+pub of-spec : {M : Type 1} → statement M
+of-spec = tie.close (tie.spec (search needs) (λ c. rw (c .of .ensures)))

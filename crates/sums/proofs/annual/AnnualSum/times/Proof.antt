@@ -1,0 +1,7 @@
+-- The mixed number's own.
+use borrow.Author.Needs.{needs}
+use Rattle.sums.proofs.annual.AnnualSum.times.Statement.{statement}
+use Rattle.sums.proofs.annual.AnnualSum.times.Tie as tie
+
+pub times-spec : {M : Type 1} → statement M
+times-spec = tie.close (tie.spec (search needs) (λ c. rw (c .times .ensures)))

@@ -1,0 +1,15 @@
+-- 01, "Sources" and "Questions in order": what a source rule answers.
+use Prim.Native.Nat.{ℕ}
+use Rattle.sums.specs.Figures.{annualOf, peakOf}
+use Rattle.sums.specs.declared.answer.Verdict.{Verdict}
+use Rattle.sums.specs.declared.answer.Emission.{Emission}
+
+abbrev pub accepted : Verdict
+accepted = record { number = 0; slot = 0 }
+
+-- "such a rule answers 9, then 11 ..., with zero figures and slot 0"
+abbrev pub refusedBy : ℕ → Verdict
+refusedBy n = record { number = n; slot = 0 }
+
+abbrev pub noEmission : Emission
+noEmission = record { code = 0; annual = annualOf 0; peak = peakOf 0 }

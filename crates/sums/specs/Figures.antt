@@ -1,0 +1,58 @@
+-- 01, "Figures": the exact units, the sums counted in them, and rounding.
+use Prim.Native.Nat.{ℕ, _+_, _*_, _/_, _%_, _^_, _≤_}
+use Rattle.sums.specs.Fraction.{Frac, _over_, partsOf}
+use Rattle.sums.specs.declared.mixed.Mixed.{Mixed}
+use Rattle.sums.specs.declared.annual.AnnualSum.{AnnualSum}
+use Rattle.sums.specs.declared.peak.PeakSum.{PeakSum}
+
+-- "The figure is the largest whole number of its units that isn't above the exact sum plus half a unit": of x units
+unfoldable pub nearest : Frac → ℕ
+nearest x = (2 * x .num + x .den) / (2 * x .den)
+
+-- a mixed number over the denominator d counts so many d-ths of a unit
+unfoldable pub partsIn : ℕ → Mixed → ℕ
+partsIn d m = m .whole * d + m .part
+
+-- the mixed number of x d-ths: whole units, of which it holds 64 bits, and what is left of one
+unfoldable pub mixedOf : ℕ → ℕ → Mixed
+mixedOf d x = record { whole = x / d % 2 ^ 64; part = x % d }
+
+-- the denominators that a mixed number is worked over
+pub record Radix (d : ℕ) : Type 0 where
+  pub least : 131072 ≤ d
+  pub most : d ≤ 140737488355328
+
+-- "Annual: whole millionths of a tonne. Peak: whole ten-millionths of a gram per second. Every exact unit has one denominator":
+-- the exact units in a millionth of a tonne, and in a ten-millionth of a gram per second
+abbrev pub annualDenominator : ℕ
+annualDenominator = 20000000000000
+
+abbrev pub peakDenominator : ℕ
+peakDenominator = 360000000
+
+-- the exact units of a sum, and the sum of so many
+abbrev pub annualParts : AnnualSum → ℕ
+annualParts s = partsIn annualDenominator (s .0)
+
+abbrev pub annualOf : ℕ → AnnualSum
+annualOf x = record { 0 = mixedOf annualDenominator x }
+
+abbrev pub peakParts : PeakSum → ℕ
+peakParts s = partsIn peakDenominator (s .0)
+
+abbrev pub peakOf : ℕ → PeakSum
+peakOf x = record { 0 = mixedOf peakDenominator x }
+
+-- the figure of a sum
+abbrev pub annualFigure : AnnualSum → ℕ
+annualFigure s = nearest (annualParts s over annualDenominator)
+
+abbrev pub peakFigure : PeakSum → ℕ
+peakFigure s = nearest (peakParts s over peakDenominator)
+
+-- the sum of so many tonnes, and of so many grams per second
+abbrev pub annualSum : Frac → AnnualSum
+annualSum x = annualOf (partsOf (1000000 * annualDenominator) x)
+
+abbrev pub peakSum : Frac → PeakSum
+peakSum x = peakOf (partsOf (10000000 * peakDenominator) x)

@@ -1,0 +1,6 @@
+-- The definitions that the contracts cite.
+pub mod Choice
+pub mod Fraction
+pub mod Table
+pub mod Figures
+pub mod Answer

@@ -1,0 +1,47 @@
+// The exact peak sum.
+ghost use mathlib.Core.Path.{_≡_};
+ghost use Prim.Native.Nat.{_+_, _*_, _%_, _^_};
+ghost use Rattle.sums.specs.Figures.{peakOf, peakParts, peakFigure};
+use super::mixed::Mixed;
+
+// Ten-millionths of a gram per second.
+pub struct PeakSum(pub Mixed);
+
+impl PeakSum {
+    // Exact units in a ten-millionth of a gram per second.
+    pub const DENOMINATOR: u64 = 360_000_000;
+
+    pub fn zero() -> Self
+        ensures { λ r. ⌜ r ≡ peakOf 0 ⌝ }
+    {
+        Self::of(0)
+    }
+
+    pub fn of(x: u64) -> Self
+        ensures { λ r. ⌜ r ≡ peakOf x ⌝ }
+    {
+        Self(Mixed::of(x, Self::DENOMINATOR))
+    }
+
+    pub fn plus(self, other: Self) -> Self
+        ensures { λ r. ⌜ r ≡ peakOf (peakParts self + peakParts other) ⌝ }
+    {
+        let a = self.0;
+        let b = other.0;
+        Self(a.plus(b, Self::DENOMINATOR))
+    }
+
+    pub fn times(self, k: u16) -> Self
+        ensures { λ r. ⌜ r ≡ peakOf (peakParts self * k) ⌝ }
+    {
+        let a = self.0;
+        Self(a.times(k, Self::DENOMINATOR))
+    }
+
+    pub fn rounded(self) -> u64
+        ensures { λ r. ⌜ r ≡ peakFigure self % 2 ^ 64 ⌝ }
+    {
+        let a = self.0;
+        a.rounded(Self::DENOMINATOR)
+    }
+}
