@@ -1,10 +1,9 @@
 -- Fractions by their whole numbers of parts: each operation on fractions is one on the numerators over a common denominator, so a formula's
 -- number of parts is found by a term that is written as the formula is. Assumes nothing.
-use mathlib.Core.Path.{_≡_, ap, _∙_}
+use mathlib.Core.Path.{_≡_, refl, sym, ap, _∙_}
 use Prim.Native.Nat.{ℕ, zero, suc, _+_, _*_, _/_, _<_}
 use native.Mathlib.Nat.{mul-pos, mul-div-cancel}
 use native.Mathlib.Omega.{arith}
-use mathlib.Core.Path.{refl}
 use lib.Dec.{lit<}
 use Rattle.sums.specs.Choice.{sumTo}
 use Rattle.sums.specs.Fraction.{Frac, _over_, whole, _⊙_, _⊞_, _≈_, _per_, totalTo, partsOf}
@@ -29,13 +28,15 @@ pub ≈-⊞ : {x y : Frac} {a b d : ℕ} → x ≈ (a over d) → y ≈ (b over 
 pub ≈-per : {x : Frac} {a d : ℕ} (k : ℕ) → 0 < k → x ≈ (a over d) → x per k ≈ (a over (d * k))
 ≈-per k h p = record { left = mul-pos (p .left) h; right = mul-pos (p .right) h; cross = omega (arith, ap (λ (n : ℕ). n * k) (p .cross)) }
 
--- k times as many parts, each a k-th of one
-pub ≈-scaled : {x : Frac} {a d : ℕ} (k : ℕ) → 0 < k → x ≈ (a over d) → x ≈ ((a * k) over (d * k))
-≈-scaled k h p = record { left = p .left; right = mul-pos (p .right) h; cross = omega (arith, ap (λ (n : ℕ). n * k) (p .cross)) }
-
--- as many parts, otherwise written
-pub ≈-as : {x : Frac} {a b d : ℕ} → a ≡ b → x ≈ (a over d) → x ≈ (b over d)
-≈-as e p = rw e at p
+-- the same number over another denominator
+pub ≈-over : {x : Frac} {a d : ℕ} (b e : ℕ) → 0 < e → a * e ≡ b * d → x ≈ (a over d) → x ≈ (b over e)
+≈-over {x} {a} {d} b e p f h =
+    let g : x .num * e * d ≡ b * x .den * d = omega (arith, ap (λ (k : ℕ). k * e) (h .cross), ap (λ (k : ℕ). k * x .den) f) in
+    record {
+      left = h .left;
+      right = p;
+      cross = sym (mul-div-cancel (x .num * e) (h .right)) ∙ ap (λ (k : ℕ). k / d) g ∙ mul-div-cancel (b * x .den) (h .right);
+    }
 
 pub totalTo-parts : (f : ℕ → Frac) (g : ℕ → ℕ) (d : ℕ) → 0 < d → (n : ℕ) → ((i : ℕ) → i < n → f i ≈ (g i over d)) → totalTo n f ≈ (sumTo n g over d)
 unfolding totalTo sumTo
