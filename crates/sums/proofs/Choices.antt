@@ -1,16 +1,19 @@
 -- A choice follows from its test; all of a list's tests, from the one; sums and tests up to n, one step at a time.
 -- Assumes nothing.
-use Prim.Native.Nat.{ℕ, zero, suc, _+_, _*_, _<_, _≤_}
+use Prim.Native.Nat.{ℕ, zero, suc, _+_, _*_, _<_, _≤_, zero-le}
 use mathlib.Core.Logic.{⊎-elim}
 use native.Mathlib.Numerals.{add-one}
 use native.Mathlib.Nat.{not-suc-le-zero, eq-or-lt-of-le, le-of-suc-le-suc}
 use native.Mathlib.Omega.{arith}
-use mathlib.Core.Path.{_≡_, refl, sym, subst}
+use mathlib.Core.Path.{_≡_, refl, sym, _∙_, subst}
 use mathlib.Core.Bool.{Bool, true, false, _&&_}
-use mathlib.Core.List.{List, [], _∷_}
-use lib.Dec.{T}
-use lib.ListN.{getD}
-use Rattle.sums.specs.Choice.{if_then_else, allFrom, allOf, allTo, sumTo}
+use mathlib.Core.List.{List, [], _∷_, map}
+use borrow.Author.Tests.{leb-true}
+use borrow.Author.Count.{below-more}
+use lib.Dec.{T, leb}
+use lib.ListN.{getD, set, length}
+use lib.Seq.{getD-set-same, getD-set-other}
+use Rattle.sums.specs.Choice.{if_then_else, allFrom, allOf, allTo, sumTo, listTo}
 
 pub yes : {A : Type 0} (t : Bool) (r a b : A) → t ≡ true → r ≡ a → r ≡ if_then_else t a b
 unfolding if_then_else
@@ -47,6 +50,15 @@ from b (t ∷ ts) h (suc k) = from (b && t) ts h k
 pub nth : (ts : List Bool) → allOf ts ≡ true → (k : ℕ) → getD ts k true ≡ true
 nth = from true
 
+-- a bound of each number of a list
+pub each : (b : ℕ) (l : List ℕ) → allOf (map (λ (n : ℕ). leb n b) l) ≡ true → (i : ℕ) → getD l i 0 ≤ b
+each b l h i = at l i (nth (map (λ (n : ℕ). leb n b) l) h i)
+  where
+    at : (l : List ℕ) (i : ℕ) → getD (map (λ (n : ℕ). leb n b) l) i true ≡ true → getD l i 0 ≤ b
+    at [] i e = zero-le
+    at (n ∷ l) zero e = leb-true n b e
+    at (n ∷ l) (suc i) e = at l i e
+
 pub allTo-step : (n : ℕ) (f : ℕ → Bool) → allTo (n + 1) f ≡ (allTo n f && f n)
 unfolding allTo
 allTo-step n f = rw add-one
@@ -62,6 +74,11 @@ pub sumTo-step : (n : ℕ) (f : ℕ → ℕ) → sumTo (n + 1) f ≡ sumTo n f +
 unfolding sumTo
 sumTo-step n f = rw add-one
 
+pub sumTo-times : (k : ℕ) (f : ℕ → ℕ) (n : ℕ) → sumTo n (λ (i : ℕ). f i * k) ≡ sumTo n f * k
+unfolding sumTo
+sumTo-times k f zero = omega arith
+sumTo-times k f (suc n) = omega (arith, sumTo-times k f n)
+
 pub sumTo-bound : (b : ℕ) (f : ℕ → ℕ) (n : ℕ) → ((i : ℕ) → i < n → f i ≤ b) → sumTo n f ≤ n * b
 unfolding sumTo
 sumTo-bound b f zero h = omega arith
@@ -69,3 +86,17 @@ sumTo-bound b f (suc n) h =
     let e = sumTo-bound b f n (λ (i : ℕ) (p : i < n). h i (omega arith)) in
     let l = h n (omega arith) in
     omega arith
+
+-- a list that a loop fills: one place more, and all of them
+module _ {A : Type 0} (d : A) where
+  pub filled : (l : List A) (i : ℕ) (a : A) (f : ℕ → A) → i < length l → ((m : ℕ) → m < i → getD l m d ≡ f m) → a ≡ f i → (m : ℕ) → m < i + 1 → getD (set l i a) m d ≡ f m
+  filled l i a f p h e =
+      below-more (λ (m : ℕ). getD (set l i a) m d ≡ f m) i (λ (m : ℕ) (q : m < i). getD-set-other l i m a d (λ r. omega arith) ∙ h m q) (getD-set-same l i a d p ∙ e)
+
+  pub listTo-is : (n : ℕ) (l : List A) (f : ℕ → A) → length l ≡ n → ((m : ℕ) → m < n → getD l m d ≡ f m) → l ≡ listTo n f
+  unfolding listTo
+  listTo-is zero [] f e h = refl
+  listTo-is zero (a ∷ l) f e h = absurd (omega arith)
+  listTo-is (suc n) [] f e h = absurd (omega arith)
+  listTo-is (suc n) (a ∷ l) f e h =
+      rw (h zero (omega arith), listTo-is n l (λ (m : ℕ). f (suc m)) (omega arith) (λ (m : ℕ) (p : m < n). h (suc m) (omega arith)))

@@ -1,6 +1,7 @@
 -- The laws that belong to no one function.
 pub mod Choices
 pub mod Fractions
+pub mod Products
 pub mod Tables
 pub mod Turns
 pub mod Rounding

@@ -24,3 +24,8 @@ allTo (suc n) f = allTo n f && f n
 unfoldable pub sumTo : ℕ → (ℕ → ℕ) → ℕ
 sumTo zero f = 0
 sumTo (suc n) f = sumTo n f + f n
+
+-- f 0, .., f (n - 1)
+unfoldable pub listTo : {A : Type 0} → ℕ → (ℕ → A) → List A
+listTo zero f = []
+listTo (suc n) f = f 0 ∷ listTo n (λ (i : ℕ). f (suc i))

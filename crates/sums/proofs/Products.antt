@@ -1,0 +1,7 @@
+-- The bound of a product is the product of its factors' bounds, written as the expression is. Assumes nothing.
+use Prim.Native.Nat.{ℕ, _*_, _≤_}
+use native.Mathlib.Nat.{mul-le-mul}
+
+infixl 70 _⊗_
+pub _⊗_ : {a b m n : ℕ} → a ≤ m → b ≤ n → a * b ≤ m * n
+p ⊗ q = mul-le-mul p q

@@ -1,0 +1,5 @@
+-- The laws that belong to no one function.
+pub mod Edges
+pub mod Ranges
+pub mod Scales
+pub mod Paper

@@ -1,0 +1,96 @@
+-- What the range tests of a group and of coefficients say: the bound of each field, read off its test. Assumes nothing.
+use Prim.Native.Nat.{ℕ, zero, suc, _<_, _≤_}
+use native.Mathlib.Nat.{le-trans}
+use native.Mathlib.Omega.{arith}
+use mathlib.Core.Path.{_≡_, refl}
+use mathlib.Core.Bool.{true}
+use mathlib.Core.List.{List, [], _∷_}
+use borrow.Author.Tests.{leb-true}
+use lib.Dec.{leb}
+use lib.IntN.{ℤ}
+use lib.ListN.{getD}
+use Rattle.sums.proofs.Choices.{left, right, nth, each, allTo-at}
+use Rattle.vehicles.specs.Fields.{distancesInRange, daysInRange, monthLengths, temperaturesInRange, groupInRange, groupTests, coefficientsInRange, seven, noMinute, noKilometre, allInRange, noCoefficients}
+use Rattle.vehicles.specs.Rules.{inRange}
+use Rattle.vehicles.specs.Parts.{bothOf}
+use Rattle.vehicles.specs.declared.group.Distances.{Distances}
+use Rattle.vehicles.specs.declared.group.Group.{Group}
+use Rattle.vehicles.specs.declared.group.Coefficients.{Coefficients}
+
+pub record Near (d : Distances) : Type 0 where
+  pub nearest : d .nearest .0 ≤ 20000
+  pub farthest : d .farthest .0 ≤ 20000
+
+pub near : (d : Distances) → distancesInRange d ≡ true → Near d
+unfolding distancesInRange
+near d h = record {
+  nearest = leb-true (d .nearest .0) 20000 (left (leb (d .nearest .0) 20000) (leb (d .farthest .0) 20000) h);
+  farthest = leb-true (d .farthest .0) 20000 (right (leb (d .nearest .0) 20000) (leb (d .farthest .0) 20000) h);
+}
+
+pub twice : (d : Distances) → distancesInRange d ≡ true → bothOf d .0 ≤ 40000
+twice d h = let n = near d h in omega arith
+
+pub record Ranged (g : Group) : Type 0 where
+  pub vehicles : g .vehicles ≤ 10000
+  pub leaving : g .leaving ≤ 10000
+  pub share : g .share ≤ 100
+  pub running : g .neutraliser .running ≤ 100
+  pub warming : g .neutraliser .warming ≤ 100
+  pub idle : g .idle .0 ≤ 250
+  pub outward : distancesInRange (g .outward) ≡ true
+  pub inward : distancesInRange (g .inward) ≡ true
+  pub days : daysInRange (g .days) ≡ true
+
+pub ranged : (g : Group) → groupInRange g ≡ true → Ranged g
+unfolding groupInRange
+ranged g h =
+    let t = nth (groupTests g) h in
+    record {
+      vehicles = leb-true (g .vehicles) 10000 (t 5);
+      leaving = le-trans (leb-true (g .leaving) (g .vehicles) (t 6)) (leb-true (g .vehicles) 10000 (t 5));
+      share = leb-true (g .share) 100 (t 7);
+      running = leb-true (g .neutraliser .running) 100 (t 8);
+      warming = leb-true (g .neutraliser .warming) 100 (t 9);
+      idle = leb-true (g .idle .0) 250 (t 10);
+      outward = t 11;
+      inward = t 12;
+      days = t 13;
+    }
+
+pub days : (l : List ℕ) → daysInRange l ≡ true → (m : ℕ) → m < 12 → getD l m 0 ≤ 31
+unfolding daysInRange
+days l h m p =
+    le-trans
+    (leb-true (getD l m 0) (getD monthLengths m 0) (allTo-at 12 (λ (m : ℕ). leb (getD l m 0) (getD monthLengths m 0)) h m p))
+    (each 31 monthLengths refl m)
+
+three : (P : ℕ → Type 0) → P 0 → P 1 → P 2 → (p : ℕ) → p < 3 → P p
+three P a b c zero h = a
+three P a b c (suc zero) h = b
+three P a b c (suc (suc zero)) h = c
+three P a b c (suc (suc (suc p))) h = absurd (omega arith)
+
+module _ (k : Coefficients) (h : coefficientsInRange k ≡ true) where
+  one-of : (i : ℕ) → getD (seven k) i 0 ≤ 1000000
+  unfolding coefficientsInRange
+  one-of i = each 1000000 (seven k) h i
+
+  pub warmup : (p : ℕ) → p < 3 → getD (k .warmup) p noMinute .0 ≤ 1000000
+  warmup = three (λ (p : ℕ). getD (k .warmup) p noMinute .0 ≤ 1000000) (one-of 0) (one-of 1) (one-of 2)
+
+  pub run : (p : ℕ) → p < 3 → getD (k .run) p noKilometre .0 ≤ 1000000
+  run = three (λ (p : ℕ). getD (k .run) p noKilometre .0 ≤ 1000000) (one-of 3) (one-of 4) (one-of 5)
+
+  pub idle : k .idle .0 ≤ 1000000
+  idle = one-of 6
+
+-- each of the six
+pub of-six : (ks : List Coefficients) → allInRange ks ≡ true → (p : ℕ) → p < 6 → coefficientsInRange (getD ks p noCoefficients) ≡ true
+unfolding allInRange
+of-six ks h p q = allTo-at 6 (λ (p : ℕ). coefficientsInRange (getD ks p noCoefficients)) h p q
+
+-- a group, temperatures and coefficients that are all in range
+pub all-in-range : (g : Group) (ts : List ℤ) (ks : List Coefficients) → inRange g ts ks ≡ true → (groupInRange g ≡ true) × (allInRange ks ≡ true)
+unfolding inRange
+all-in-range g ts ks h = let t = nth (groupInRange g ∷ temperaturesInRange ts ∷ allInRange ks ∷ []) h in (t 0, t 2)

@@ -1,0 +1,10 @@
+-- The seven tests, as they stand.
+use borrow.Author.Needs.{needs}
+use mathlib.Core.Path.{refl}
+use Rattle.vehicles.specs.Fields.{allZero}
+use Rattle.vehicles.proofs.group.all_zero.Statement.{statement}
+use Rattle.vehicles.proofs.group.all_zero.Tie as tie
+
+pub all-zero-spec : {M : Type 1} → statement M
+unfolding allZero
+all-zero-spec = tie.close (tie.spec (search needs) (search needs) (search needs) (search needs) (search needs) (search needs) (λ c. refl))

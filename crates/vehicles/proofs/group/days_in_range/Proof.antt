@@ -1,0 +1,11 @@
+-- The twelve tests, as they stand.
+use borrow.Author.Needs.{needs}
+use mathlib.Core.Path.{refl}
+use Rattle.sums.specs.Choice.{allTo}
+use Rattle.vehicles.specs.Fields.{daysInRange}
+use Rattle.vehicles.proofs.group.days_in_range.Statement.{statement}
+use Rattle.vehicles.proofs.group.days_in_range.Tie as tie
+
+pub days-in-range-spec : {M : Type 1} → statement M
+unfolding daysInRange allTo
+days-in-range-spec = tie.close (tie.spec (search needs) (search needs) (search needs) (search needs) (search needs) (search needs) (search needs) (search needs) (search needs) (search needs) (search needs) (search needs) (λ c. refl))

@@ -1,0 +1,16 @@
+-- The row of the fuel.
+use borrow.Author.Needs.{needs}
+use mathlib.Core.Path.{refl}
+use borrow.Author.Tests.{eq-eqb, ne-eqb}
+use Rattle.sums.proofs.Choices.{yes, no}
+use Rattle.vehicles.specs.Rules.{codeOf}
+use Rattle.vehicles.proofs.rule.code_of.Statement.{statement}
+use Rattle.vehicles.proofs.rule.code_of.Tie as tie
+
+pub code-of-spec : {M : Type 1} → statement M
+unfolding codeOf
+code-of-spec =
+    tie.close
+    (tie.spec (search needs) (search needs) (search needs) (search needs)
+    (λ c. yes _ _ _ _ (eq-eqb _ 1 (c .if1 .taken)) refl)
+    (λ c. no _ _ _ _ (ne-eqb _ 1 (c .if1 .left)) refl))

@@ -1,0 +1,70 @@
+-- The emissions of the places passed stand in their places, in parts; the parts are what the rule gives.
+use borrow.Author.Needs.{needs}
+use native.Mathlib.Omega.{arith}
+use mathlib.Core.Path.{_≡_, _∙_}
+use Prim.Native.Nat.{ℕ, _≤_, _<_, _-_}
+use lib.ListN.{getD, length}
+use mir.Syntax.{w16}
+use mir.Facts.{toZ-ofZ}
+use Rattle.sums.specs.Answer.{noEmission}
+use Rattle.sums.proofs.Choices.{filled, listTo-is}
+use Rattle.vehicles.specs.Fields.{noCoefficients}
+use Rattle.vehicles.specs.Rules.{emissionOf, emissionsOf}
+use Rattle.vehicles.specs.Parts.{emissionParts}
+use Rattle.vehicles.proofs.Ranges.{of-six}
+use Rattle.vehicles.proofs.Scales.{mild}
+use Rattle.vehicles.proofs.Paper.{emission}
+use Rattle.vehicles.proofs.rule.emissions_of.Statement.{statement}
+use Rattle.vehicles.proofs.rule.emissions_of.Tie as tie
+
+abbrev Inv-loop : tie.InvT-loop
+Inv-loop g ks seasons coldest emissions₀ p₀ emissions p =
+    (p ≤ 6) × (length emissions ≡ 6)
+    × ((m : ℕ) → m < p → getD emissions m noEmission ≡ emissionParts g (getD ks m noCoefficients) m seasons coldest)
+
+abbrev μ-loop : tie.MeasureT-loop
+μ-loop g ks seasons coldest emissions₀ p₀ emissions p = 6 - p
+
+loop-holds : tie.Need-loop-holds Inv-loop μ-loop
+loop-holds c = (search needs, search needs, λ m q. absurd (omega arith))
+
+emission-of-requires : tie.Need-emission-of-requires Inv-loop μ-loop
+emission-of-requires c κs =
+    let b = c .before .before in
+    let s = b .before .before .before .before .before in (
+      s .pre .0,
+      of-six (s .args .t3) (s .pre .1) (b .loop .p) (search needs),
+      search needs,
+      (λ m q. rw (b .before .before .before .before .seasons-of .ensures m q) (mild (s .args .g) _)),
+      rw (b .before .before .season-of .ensures) (mild (s .args .g) _),
+    )
+
+loop-again : tie.Need-loop-again Inv-loop μ-loop
+loop-again c =
+    let b = c .before .before .before in
+    let s = b .before .before .before .before .before .args in (
+      search needs,
+      search needs,
+      filled noEmission (b .loop .emissions) (b .loop .p) (c .emission-of .result)
+          (λ (m : ℕ). emissionParts (s .g) (getD (s .t3) m noCoefficients) m (b .before .before .before .before .seasons-of .result) (b .before .before .season-of .result))
+          (search needs) (b .loop .inv .2) (c .emission-of .ensures),
+    )
+
+returns : tie.Need-returns Inv-loop μ-loop
+unfolding emissionsOf
+returns c =
+    let b = c .before in
+    let s = b .before .before .before .before .before .args in
+    let e : b .loop .p ≡ 6 = omega arith in
+    let x = toZ-ofZ {w = w16} {z = b .before .before .before .lowest .result} (search needs) in
+    listTo-is noEmission 6 (b .loop .emissions) (λ (m : ℕ). emissionOf (s .g) (s .ts) (getD (s .t3) m noCoefficients) m) (b .loop .inv .1)
+    (λ m q.
+    (rw e at (b .loop .inv .2)) m q
+    ∙ rw (b .before .before .season-of .ensures, x, b .before .before .before .lowest .ensures)
+    (emission (s .g) (s .ts) (getD (s .t3) m noCoefficients) m (b .before .before .before .before .seasons-of .result) (b .before .before .before .before .seasons-of .ensures)))
+
+pub emissions-of-spec : {M : Type 1} → statement M
+emissions-of-spec =
+    tie.close
+    (tie.spec Inv-loop μ-loop (search needs) (search needs) (search needs) (search needs) loop-holds (search needs) (search needs) emission-of-requires
+    (search needs) (search needs) (search needs) (search needs) loop-again returns)

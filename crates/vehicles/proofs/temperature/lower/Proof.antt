@@ -1,0 +1,21 @@
+-- The choice, by the test of the code.
+use borrow.Author.Needs.{needs}
+use mir.Facts.{toZ-ofZ}
+use Rattle.sums.proofs.Choices.{yes, no}
+use Rattle.vehicles.specs.Rules.{lowerOf}
+use Rattle.vehicles.proofs.temperature.lower.Statement.{statement}
+use Rattle.vehicles.proofs.temperature.lower.Tie as tie
+
+pub lower-spec : {M : Type 1} → statement M
+unfolding lowerOf
+lower-spec =
+    tie.close
+    (tie.spec
+    (λ c.
+    let x = toZ-ofZ (c .before .fits .x) in
+    let y = toZ-ofZ (c .before .fits .y) in
+    yes _ _ _ _ (simp (x, y) at (c .if1 .taken)) x)
+    (λ c.
+    let x = toZ-ofZ (c .before .fits .x) in
+    let y = toZ-ofZ (c .before .fits .y) in
+    no _ _ _ _ (simp (x, y) at (c .if1 .left)) y))

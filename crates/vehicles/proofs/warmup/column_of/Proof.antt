@@ -1,0 +1,16 @@
+-- A heated stand is warm all year, another has the period of the temperature.
+use borrow.Author.Needs.{needs}
+use mathlib.Core.Path.{refl}
+use mir.Facts.{toZ-ofZ}
+use Rattle.sums.proofs.Choices.{yes, no}
+use Rattle.vehicles.specs.Rules.{columnOf}
+use Rattle.vehicles.proofs.warmup.column_of.Statement.{statement}
+use Rattle.vehicles.proofs.warmup.column_of.Tie as tie
+
+pub column-of-spec : {M : Type 1} → statement M
+unfolding columnOf
+column-of-spec =
+    tie.close
+    (tie.spec (search needs)
+    (λ c. yes _ _ _ _ (c .if1 .taken) refl)
+    (λ c. no _ _ _ _ (c .before .if1 .left) (simp (toZ-ofZ (c .before .before .fits .t)) at (c .period .ensures .0))))

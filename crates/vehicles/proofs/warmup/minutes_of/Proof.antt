@@ -1,0 +1,18 @@
+-- A heated stand has 15 tenths, another what the table says.
+use borrow.Author.Needs.{needs}
+use mathlib.Core.Path.{refl, ap, _∙_}
+use mir.Facts.{toZ-ofZ}
+use Rattle.sums.specs.Fraction.{partsOf}
+use Rattle.sums.proofs.Choices.{yes, no}
+use Rattle.vehicles.specs.Rules.{minutesOf}
+use Rattle.vehicles.proofs.warmup.minutes_of.Statement.{statement}
+use Rattle.vehicles.proofs.warmup.minutes_of.Tie as tie
+
+pub minutes-of-spec : {M : Type 1} → statement M
+unfolding minutesOf partsOf
+minutes-of-spec =
+    tie.close
+    (tie.spec (search needs)
+    (λ c. ap (partsOf 10) (yes _ _ _ _ (c .if1 .taken) refl))
+    (λ c.
+    (simp (toZ-ofZ (c .before .before .fits .t)) at (c .table-minutes .ensures)) ∙ ap (partsOf 10) (no _ _ _ _ (c .before .if1 .left) refl)))

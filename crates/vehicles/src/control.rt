@@ -1,0 +1,26 @@
+// Control factors, table 10.
+ghost use mathlib.Core.Path.{_≡_};
+ghost use Prim.Native.Nat.{_<_};
+ghost use Rattle.sums.specs.Fraction.{partsOf};
+ghost use Rattle.vehicles.specs.Rules.{controlOf};
+use super::group::Group;
+
+// Percents, in the pollutants' order.
+const PETROL: [u64; 6] = [80, 90, 100, 100, 95, 95];
+
+const DIESEL: [u64; 6] = [90, 90, 100, 80, 95, 100];
+
+pub(crate) fn control_of(g: Group, place: usize) -> u64
+    requires { ⌜ place < 6 ⌝ }
+    ensures { λ r. ⌜ r ≡ partsOf 100 (controlOf g place) ⌝ }
+{
+    if g.controlled {
+        if g.fuel == 1 {
+            PETROL[place]
+        } else {
+            DIESEL[place]
+        }
+    } else {
+        100
+    }
+}

@@ -1,0 +1,153 @@
+// What a vehicle group gives of each of the six pollutants.
+ghost use mathlib.Core.Path.{_≡_};
+ghost use mathlib.Core.Bool.{true};
+ghost use Prim.Native.Nat.{_*_, _<_, _≤_};
+ghost use Rattle.sums.specs.Figures.{annualOf, peakOf};
+ghost use Rattle.vehicles.specs.Fields.{groupInRange, coefficientsInRange, allInRange};
+ghost use Rattle.vehicles.specs.Rules.{codeOf, emissionsOf, inRange, barred, refused, groupAnswer};
+ghost use Rattle.vehicles.specs.Parts.{dayParts, yearParts, emissionParts, Works, Mild, Seasonal};
+use super::control;
+use super::group;
+use super::group::Coefficients;
+use super::group::Group;
+use super::temperature;
+use super::trip;
+use super::units;
+use super::warmup;
+use super::warmup::Season;
+use sums::AnnualSum;
+use sums::Emission;
+use sums::PeakSum;
+use sums::Verdict;
+
+pub struct GroupAnswer {
+    pub verdict: Verdict,
+    pub emissions: [Emission; 6],
+}
+
+// A day's trips of one vehicle, in 2,000,000,000ths of a gram.
+fn day_of(g: Group, k: Coefficients, control: u64, s: Season) -> u64
+    requires { ⌜ Works g k control (s .column) × (s .minutes .0 ≤ 300) ⌝ }
+    ensures { λ r. ⌜ (r ≡ dayParts g k control s) × (r ≤ 24000000000000) ⌝ }
+{
+    let d = g.inward;
+    trip::out_of(g, k, control, s) + trip::drive(g, k, control, s.column, d)
+}
+
+// The same over the days worked in the year.
+fn year_of(g: Group, k: Coefficients, control: u64, seasons: [Season; 12]) -> u64
+    requires { ⌜ (groupInRange g ≡ true) × (coefficientsInRange k ≡ true) × (control ≤ 100) × Seasonal seasons ⌝ }
+    ensures { λ r. ⌜ (r ≡ yearParts g k control seasons) × (r ≤ 8928000000000000) ⌝ }
+{
+    let days = g.days;
+    let mut total = 0;
+    let mut i = 0;
+    while i < 12 {
+        total += day_of(g, k, control, seasons[i]) * units::wide8(days[i]);
+        i += 1;
+    }
+    total
+}
+
+fn annual_of(g: Group, year: u64) -> AnnualSum
+    requires { ⌜ (groupInRange g ≡ true) × (year ≤ 8928000000000000) ⌝ }
+    ensures { λ r. ⌜ r ≡ annualOf (year * g .share * g .vehicles * 100) ⌝ }
+{
+    AnnualSum::of(year * units::wide8(g.share))
+        .times(g.vehicles)
+        .times(100)
+}
+
+fn peak_of(g: Group, out: u64) -> PeakSum
+    requires { ⌜ (groupInRange g ≡ true) × (out ≤ 15000000000000) ⌝ }
+    ensures { λ r. ⌜ r ≡ peakOf (out * g .leaving * 500) ⌝ }
+{
+    PeakSum::of(out * units::wide16(g.leaving)).times(500)
+}
+
+const PETROL_CODES: [u16; 6] = [337, 2704, 301, 328, 330, 184];
+
+const DIESEL_CODES: [u16; 6] = [337, 2754, 301, 328, 330, 184];
+
+fn code_of(fuel: u8, place: usize) -> u16
+    requires { ⌜ place < 6 ⌝ }
+    ensures { λ r. ⌜ r ≡ codeOf fuel place ⌝ }
+{
+    if fuel == 1 {
+        PETROL_CODES[place]
+    } else {
+        DIESEL_CODES[place]
+    }
+}
+
+// The emission of the pollutant at a place, from the months' seasons and the coldest month's.
+fn emission_of(
+    g: Group,
+    k: Coefficients,
+    place: usize,
+    seasons: [Season; 12],
+    coldest: Season,
+) -> Emission
+    requires { ⌜ (groupInRange g ≡ true) × (coefficientsInRange k ≡ true) × (place < 6) × Seasonal seasons × Mild coldest ⌝ }
+    ensures { λ r. ⌜ r ≡ emissionParts g k place seasons coldest ⌝ }
+{
+    let control = control::control_of(g, place);
+    Emission {
+        code: code_of(g.fuel, place),
+        annual: annual_of(g, year_of(g, k, control, seasons)),
+        peak: peak_of(g, trip::out_of(g, k, control, coldest)),
+    }
+}
+
+fn emissions_of(g: Group, ts: [i16; 12], ks: [Coefficients; 6]) -> [Emission; 6]
+    requires { ⌜ (groupInRange g ≡ true) × (allInRange ks ≡ true) ⌝ }
+    ensures { λ r. ⌜ r ≡ emissionsOf g ts ks ⌝ }
+{
+    let seasons = warmup::seasons_of(g, ts);
+    let coldest = warmup::season_of(g, temperature::lowest(ts));
+    let mut emissions = [Emission::none(); 6];
+    let mut p = 0;
+    while p < 6 {
+        emissions[p] = emission_of(g, ks[p], p, seasons, coldest);
+        p += 1;
+    }
+    emissions
+}
+
+fn in_range(g: Group, ts: [i16; 12], ks: [Coefficients; 6]) -> bool
+    ensures { λ r. ⌜ r ≡ inRange g ts ks ⌝ }
+{
+    group::group_in_range(g) & temperature::temperatures_in_range(ts) & group::all_in_range(ks)
+}
+
+fn is_barred(g: Group, ks: [Coefficients; 6]) -> bool
+    ensures { λ r. ⌜ r ≡ barred g ks ⌝ }
+{
+    ((g.fuel == 1) & !group::all_zero(ks[3])) | ((g.fuel == 2) & !group::all_zero(ks[5]))
+}
+
+fn refuse(number: u8) -> GroupAnswer
+    ensures { λ r. ⌜ r ≡ refused number ⌝ }
+{
+    GroupAnswer {
+        verdict: Verdict { number, slot: 0 },
+        emissions: [Emission::none(); 6],
+    }
+}
+
+pub fn group_emission(g: Group, ts: [i16; 12], ks: [Coefficients; 6]) -> GroupAnswer
+    ensures { λ r. ⌜ r ≡ groupAnswer g ts ks ⌝ }
+{
+    if in_range(g, ts, ks) {
+        if is_barred(g, ks) {
+            refuse(11)
+        } else {
+            GroupAnswer {
+                verdict: Verdict { number: 0, slot: 0 },
+                emissions: emissions_of(g, ts, ks),
+            }
+        }
+    } else {
+        refuse(9)
+    }
+}
