@@ -1,5 +1,6 @@
 -- The laws that belong to no one function.
 pub mod Choices
+pub mod Products
 pub mod Fractions
 pub mod Tables
 pub mod Turns
