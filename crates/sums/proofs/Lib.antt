@@ -1,8 +1,9 @@
 -- The laws that belong to no one function.
 pub mod Choices
-pub mod Fractions
 pub mod Products
+pub mod Fractions
 pub mod Tables
 pub mod Turns
 pub mod Rounding
 pub mod Exact
+pub mod Sources

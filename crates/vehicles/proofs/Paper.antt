@@ -2,16 +2,16 @@
 -- twelve months have one factor, N times the share, which leaves their sum. Assumes nothing.
 use Prim.Native.Nat.{ℕ, _+_, _*_, _<_}
 use native.Mathlib.Omega.{arith}
-use mathlib.Core.Path.{_≡_, sym, ap}
+use mathlib.Core.Path.{_≡_}
 use mathlib.Core.List.{List}
 use lib.Dec.{lit<}
 use lib.IntN.{ℤ, pos}
 use lib.ListN.{getD}
-use Rattle.sums.specs.Choice.{sumTo}
-use Rattle.sums.specs.Fraction.{Frac, _over_, whole, _≈_, partsOf}
-use Rattle.sums.specs.Figures.{annualDenominator, peakDenominator, annualOf, peakOf, annualSum, peakSum}
+use Rattle.sums.specs.Fraction.{Frac, _over_, _≈_, partsOf}
+use Rattle.sums.specs.Figures.{annualDenominator, peakDenominator}
 use Rattle.sums.proofs.Choices.{sumTo-times}
 use Rattle.sums.proofs.Fractions.{≈-refl, ≈-⊙, ≈-⊞, ≈-per, ≈-over, totalTo-parts, parts}
+use Rattle.sums.proofs.Sources.{Counted}
 use Rattle.vehicles.specs.Fields.{noMinute, noKilometre}
 use Rattle.vehicles.specs.Rules.{columnOf, minutesOf, driveGrams, outGrams, inGrams, monthGrams, annualTonnes, peakGrams, controlOf, lowestOf, emissionOf}
 use Rattle.vehicles.specs.Parts.{seasonOf, noSeason, Seasons, bothOf, drivenParts, outParts, dayParts, yearParts, emissionParts}
@@ -54,7 +54,7 @@ module _ (g : Group) (k : Coefficients) (y : Frac) (c : ℕ) (same : y ≈ (c ov
   abbrev day : List Season → ℕ → ℕ
   day seasons m = dayParts g k c (getD seasons m noSeason) * getD (g .days) m 0
 
-  pub year : (ts : List ℤ) (seasons : List Season) → Seasons g ts seasons →
+  year : (ts : List ℤ) (seasons : List Season) → Seasons g ts seasons →
       annualTonnes g ts k y ≈ ((yearParts g k c seasons * g .share * g .vehicles * 100) over (1000000 * annualDenominator))
   unfolding annualTonnes yearParts
   year ts seasons h =
@@ -64,16 +64,24 @@ module _ (g : Group) (k : Coefficients) (y : Frac) (c : ℕ) (same : y ≈ (c ov
       at (totalTo-parts (λ (m : ℕ). monthGrams g k y (getD ts m (pos 0)) (getD (g .days) m 0)) (λ (m : ℕ). day seasons m * (g .share * g .vehicles)) 200000000000 (lit< tt) 12
       (λ (m : ℕ) (p : m < 12). rw (h m p) (month (getD ts m (pos 0)) (getD (g .days) m 0))))))
 
-  pub peak : (t : ℤ) → peakGrams g k y t ≈ ((outParts g k c (seasonOf g t) * g .leaving * 500) over (10000000 * peakDenominator))
+  peak : (t : ℤ) → peakGrams g k y t ≈ ((outParts g k c (seasonOf g t) * g .leaving * 500) over (10000000 * peakDenominator))
   unfolding peakGrams
   peak t =
       ≈-over (outParts g k c (seasonOf g t) * g .leaving * 500) (10000000 * peakDenominator) (lit< tt) (omega arith)
       (≈-per 3600 (lit< tt) (≈-⊙ (out t) (≈-refl (g .leaving) 1 (lit< tt))))
 
--- what the parts of a pollutant make is what the rule gives of it
+-- a pollutant's tonnes and rate, in exact units
+pub counted : (g : Group) (ts : List ℤ) (k : Coefficients) (p : ℕ) (seasons : List Season) → Seasons g ts seasons →
+    Counted (annualTonnes g ts k (controlOf g p)) (peakGrams g k (controlOf g p) (lowestOf ts))
+    (yearParts g k (partsOf 100 (controlOf g p)) seasons * g .share * g .vehicles * 100)
+    (outParts g k (partsOf 100 (controlOf g p)) (seasonOf g (lowestOf ts)) * g .leaving * 500)
+counted g ts k p seasons h =
+    let y = controlOf g p in
+    let same = control g p .same in
+    record { annual = year g k y (partsOf 100 y) same ts seasons h; peak = peak g k y (partsOf 100 y) same (lowestOf ts) }
+
+-- its sums are what the rule gives
 pub emission : (g : Group) (ts : List ℤ) (k : Coefficients) (p : ℕ) (seasons : List Season) → Seasons g ts seasons →
     emissionParts g k p seasons (seasonOf g (lowestOf ts)) ≡ emissionOf g ts k p
 unfolding emissionParts emissionOf
-emission g ts k p seasons h =
-    let same = control g p .same in
-    rw (parts (year g k (controlOf g p) (partsOf 100 (controlOf g p)) same ts seasons h), parts (peak g k (controlOf g p) (partsOf 100 (controlOf g p)) same (lowestOf ts)))
+emission g ts k p seasons h = let e = counted g ts k p seasons h in rw (parts (e .annual), parts (e .peak))

@@ -1,0 +1,72 @@
+-- That the whole numbers are the papers' fractions: each rule's term is written as its formula is, and then taken to one denominator. Assumes nothing.
+use Prim.Native.Nat.{ℕ, _*_, _-_}
+use native.Mathlib.Omega.{arith}
+use mathlib.Core.Path.{_≡_}
+use mathlib.Core.Bool.{true}
+use lib.Dec.{lit<}
+use Rattle.sums.specs.Fraction.{Frac, _over_, _≈_}
+use Rattle.sums.specs.Figures.{annualOf, peakOf}
+use Rattle.sums.proofs.Fractions.{≈-refl, ≈-⊙, ≈-per, ≈-over, parts}
+use Rattle.sums.proofs.Sources.{Counted}
+use Rattle.stores.specs.Fields.{standingInRange}
+use Rattle.stores.specs.Rules.{handlingPeak, standingPeak, dustTonnes, aspirationPeak, aspirationTonnes, given}
+use Rattle.stores.specs.Parts.{exposureParts, handlingParts, standingParts, aspirationParts, givenSums}
+use Rattle.stores.specs.declared.records.Handling.{Handling}
+use Rattle.stores.specs.declared.records.Standing.{Standing}
+use Rattle.stores.specs.declared.records.Aspiration.{Aspiration}
+use Rattle.stores.proofs.TableTests.{k1-scaled, k2-scaled, q-scaled, k3-scaled, k4-scaled, k5-scaled, k6-scaled, k7-scaled, drop-scaled}
+use Rattle.stores.proofs.Ranges.{standing}
+
+handling-parts : (h : Handling) → handlingPeak h ≈ (handlingParts h over 6000000000000)
+unfolding handlingPeak handlingParts exposureParts
+handling-parts h =
+    let b = h .bulk in
+    ≈-over _ _ (lit< tt) (omega arith)
+    (≈-per 12 (lit< tt)
+    (≈-⊙ (≈-⊙ (≈-⊙ (≈-⊙ (≈-⊙ (≈-⊙ (≈-⊙ (≈-⊙ (≈-refl 10000 1 (lit< tt))
+    (k1-scaled (b .material) .same)) (k2-scaled (b .material) .same)) (k3-scaled (b .wind) .same)) (k4-scaled (b .openness) .same))
+    (k5-scaled (b .moisture) .same)) (k7-scaled (b .grain) .same)) (≈-refl (b .amount) 1000 (lit< tt))) (drop-scaled (h .drop) .same)))
+
+standing-parts : (s : Standing) → standingInRange s ≡ true → standingPeak s ≈ (standingParts s over 6000000000000)
+unfolding standingPeak standingParts exposureParts
+standing-parts s h =
+    let b = s .bulk in
+    ≈-over _ _ (lit< tt) (omega arith)
+    (≈-⊙ (≈-⊙ (≈-⊙ (≈-⊙ (≈-⊙ (≈-⊙ (k3-scaled (b .wind) .same)
+    (k4-scaled (b .openness) .same)) (k5-scaled (b .moisture) .same)) (k6-scaled (s .k6) (standing s h .k6) .same))
+    (k7-scaled (b .grain) .same)) (q-scaled (b .material) .same)) (≈-refl (b .amount) 1 (lit< tt)))
+
+aspiration-parts : (a : Aspiration) → aspirationPeak a ≈ (aspirationParts a over 10000000000)
+unfolding aspirationPeak aspirationParts
+aspiration-parts a = ≈-over _ _ (lit< tt) (omega arith)
+    (≈-⊙ (≈-⊙ (≈-refl (a .concentration) 1000 (lit< tt)) (≈-refl (a .flow) 1000 (lit< tt))) (≈-refl (10000 - a .capture) 10000 (lit< tt)))
+
+-- handling and standing alike
+dusty : {peak : Frac} {n : ℕ} → peak ≈ (n over 6000000000000) → Counted (dustTonnes peak) peak (n * 36792 * 2000) (n * 600)
+unfolding dustTonnes
+dusty e = record {
+  annual = ≈-over _ _ (lit< tt) (omega arith) (≈-⊙ (≈-⊙ (≈-refl 31536 1000 (lit< tt)) e) (≈-refl 7 10 (lit< tt)));
+  peak = ≈-over _ _ (lit< tt) (omega arith) e;
+}
+
+pub handling-counted : (h : Handling) → Counted (dustTonnes (handlingPeak h)) (handlingPeak h) (handlingParts h * 36792 * 2000) (handlingParts h * 600)
+handling-counted h = dusty (handling-parts h)
+
+pub standing-counted :
+    (s : Standing) → standingInRange s ≡ true
+    → Counted (dustTonnes (standingPeak s)) (standingPeak s) (standingParts s * 36792 * 2000) (standingParts s * 600)
+standing-counted s h = dusty (standing-parts s h)
+
+pub aspiration-counted :
+    (a : Aspiration) → Counted (aspirationTonnes a) (aspirationPeak a) (aspirationParts a * a .hours * 3600 * 2000) (aspirationParts a * 600 * 600)
+unfolding aspirationTonnes
+aspiration-counted a =
+    let e = aspiration-parts a in
+    record {
+      annual = ≈-over _ _ (lit< tt) (omega arith) (≈-⊙ (≈-⊙ (≈-refl 36 10000 (lit< tt)) e) (≈-refl (a .hours) 1 (lit< tt)));
+      peak = ≈-over _ _ (lit< tt) (omega arith) e;
+    }
+
+-- the sums of so many units are the rule's answer
+pub summed : {tonnes rate : Frac} {a p : ℕ} (dust : ℕ) → Counted tonnes rate a p → givenSums dust (annualOf a) (peakOf p) ≡ given dust tonnes rate
+summed dust e = rw (parts (e .annual), parts (e .peak))

@@ -1,0 +1,16 @@
+-- The entry by number is the table's, in whole parts.
+use borrow.Author.Needs.{needs}
+use Prim.Native.Nat.{_-_}
+use Rattle.sums.specs.Fraction.{partsOf}
+use Rattle.sums.proofs.Tables.{scaled-at}
+use Rattle.stores.specs.Rules.{dropTable}
+use Rattle.stores.proofs.TableTests.{drop-scaled, met}
+use Rattle.stores.proofs.tables.drop_factor.Statement.{statement}
+use Rattle.stores.proofs.tables.drop_factor.Tie as tie
+
+pub drop-factor-spec : {M : Type 1} → statement M
+unfolding partsOf
+drop-factor-spec =
+    tie.close
+    (tie.spec (search needs) (search needs) (search needs) (search needs)
+    (λ c. let n = c .args .class in met (scaled-at 10 dropTable (n - 1)) (drop-scaled n)))

@@ -1,0 +1,16 @@
+-- The entry by number is the table's, in whole parts.
+use borrow.Author.Needs.{needs}
+use Prim.Native.Nat.{_-_}
+use Rattle.sums.specs.Fraction.{partsOf}
+use Rattle.sums.proofs.Tables.{scaled-at}
+use Rattle.stores.specs.Rules.{qTable}
+use Rattle.stores.proofs.TableTests.{q-scaled, met}
+use Rattle.stores.proofs.tables.q.Statement.{statement}
+use Rattle.stores.proofs.tables.q.Tie as tie
+
+pub q-spec : {M : Type 1} → statement M
+unfolding partsOf
+q-spec =
+    tie.close
+    (tie.spec (search needs) (search needs) (search needs) (search needs)
+    (λ c. let n = c .args .material in met (scaled-at 1000 qTable (n - 1)) (q-scaled n)))

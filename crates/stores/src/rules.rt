@@ -1,0 +1,140 @@
+// What a handling, a standing and an aspiration record gives to the code of its dust.
+ghost use mathlib.Core.Path.{_≡_};
+ghost use mathlib.Core.Bool.{true};
+ghost use Prim.Native.Nat.{_*_, _≤_};
+ghost use Rattle.sums.specs.Figures.{annualOf, peakOf};
+ghost use Rattle.stores.specs.Fields.{bulkInRange, handlingInRange, standingInRange, aspirationInRange};
+ghost use Rattle.stores.specs.Rules.{outOfRange, handlingAnswer, standingAnswer, aspirationAnswer};
+ghost use Rattle.stores.specs.Parts.{exposureParts, handlingParts, standingParts, aspirationParts, givenSums};
+use super::records;
+use super::records::Aspiration;
+use super::records::Bulk;
+use super::records::Handling;
+use super::records::Standing;
+use super::tables;
+use sums::AnnualSum;
+use sums::Emission;
+use sums::PeakSum;
+use sums::Verdict;
+
+pub struct StoreAnswer {
+    pub verdict: Verdict,
+    pub emission: Emission,
+}
+
+// K3 K4 K5 K7, in ten-millionths.
+fn exposure(b: Bulk) -> u64
+    requires { ⌜ bulkInRange b ≡ true ⌝ }
+    ensures { λ r. ⌜ (r ≡ exposureParts b) × (r ≤ 23000000) ⌝ }
+{
+    tables::k3(b.wind) * tables::k4(b.openness) * tables::k5(b.moisture) * tables::k7(b.grain)
+}
+
+// Grams per second at the peak, in 6,000,000,000,000ths.
+fn handling_parts(h: Handling) -> u64
+    requires { ⌜ handlingInRange h ≡ true ⌝ }
+    ensures { λ r. ⌜ r ≡ handlingParts h ⌝ }
+{
+    let b = h.bulk;
+    5
+        * tables::k1(b.material)
+        * tables::k2(b.material)
+        * exposure(b)
+        * (b.amount as u64)
+        * tables::drop_factor(h.drop)
+}
+
+fn standing_parts(s: Standing) -> u64
+    requires { ⌜ standingInRange s ≡ true ⌝ }
+    ensures { λ r. ⌜ r ≡ standingParts s ⌝ }
+{
+    let b = s.bulk;
+    6 * exposure(b) * tables::k6(s.k6) * tables::q(b.material) * (b.amount as u64)
+}
+
+// Grams per second at the peak, in 10,000,000,000ths.
+fn aspiration_parts(a: Aspiration) -> u64
+    requires { ⌜ aspirationInRange a ≡ true ⌝ }
+    ensures { λ r. ⌜ r ≡ aspirationParts a ⌝ }
+{
+    (a.concentration as u64) * (a.flow as u64) * ((10_000 - a.capture) as u64)
+}
+
+fn given(dust: u8, annual: AnnualSum, peak: PeakSum) -> StoreAnswer
+    requires { ⌜ (1 ≤ dust) × (dust ≤ 3) ⌝ }
+    ensures { λ r. ⌜ r ≡ givenSums dust annual peak ⌝ }
+{
+    StoreAnswer {
+        verdict: Verdict { number: 0, slot: 0 },
+        emission: Emission {
+            code: tables::code_of(dust),
+            annual,
+            peak,
+        },
+    }
+}
+
+// A peak in 6,000,000,000,000ths, and 31.536 times 0.7 of it a year.
+fn given_bulk(dust: u8, parts: u64) -> StoreAnswer
+    requires { ⌜ (1 ≤ dust) × (dust ≤ 3) ⌝ }
+    ensures { λ r. ⌜ r ≡ givenSums dust (annualOf (parts * 36792 * 2000)) (peakOf (parts * 600)) ⌝ }
+{
+    given(
+        dust,
+        AnnualSum::of(parts).times(36_792).times(2_000),
+        PeakSum::of(parts).times(600),
+    )
+}
+
+// A peak in 10,000,000,000ths, and 0.0036 of it for each hour of a year.
+fn given_aspiration(dust: u8, parts: u64, hours: u16) -> StoreAnswer
+    requires { ⌜ (1 ≤ dust) × (dust ≤ 3) ⌝ }
+    ensures { λ r. ⌜ r ≡ givenSums dust (annualOf (parts * hours * 3600 * 2000)) (peakOf (parts * 600 * 600)) ⌝ }
+{
+    given(
+        dust,
+        AnnualSum::of(parts).times(hours).times(3_600).times(2_000),
+        PeakSum::of(parts).times(600).times(600),
+    )
+}
+
+fn out_of_range() -> StoreAnswer
+    ensures { λ r. ⌜ r ≡ outOfRange ⌝ }
+{
+    StoreAnswer {
+        verdict: Verdict { number: 9, slot: 0 },
+        emission: Emission::none(),
+    }
+}
+
+pub fn handling_emission(h: Handling) -> StoreAnswer
+    ensures { λ r. ⌜ r ≡ handlingAnswer h ⌝ }
+{
+    if records::handling_in_range(h) {
+        let b = h.bulk;
+        given_bulk(b.dust, handling_parts(h))
+    } else {
+        out_of_range()
+    }
+}
+
+pub fn standing_emission(s: Standing) -> StoreAnswer
+    ensures { λ r. ⌜ r ≡ standingAnswer s ⌝ }
+{
+    if records::standing_in_range(s) {
+        let b = s.bulk;
+        given_bulk(b.dust, standing_parts(s))
+    } else {
+        out_of_range()
+    }
+}
+
+pub fn aspiration_emission(a: Aspiration) -> StoreAnswer
+    ensures { λ r. ⌜ r ≡ aspirationAnswer a ⌝ }
+{
+    if records::aspiration_in_range(a) {
+        given_aspiration(a.dust, aspiration_parts(a), a.hours)
+    } else {
+        out_of_range()
+    }
+}
