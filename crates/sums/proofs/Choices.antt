@@ -100,3 +100,9 @@ module _ {A : Type 0} (d : A) where
   listTo-is (suc n) [] f e h = absurd (omega arith)
   listTo-is (suc n) (a ∷ l) f e h =
       rw (h zero (omega arith), listTo-is n l (λ (m : ℕ). f (suc m)) (omega arith) (λ (m : ℕ) (p : m < n). h (suc m) (omega arith)))
+
+  pub listTo-at : (n : ℕ) (f : ℕ → A) (m : ℕ) → m < n → getD (listTo n f) m d ≡ f m
+  unfolding listTo
+  listTo-at zero f m p = absurd (not-suc-le-zero p)
+  listTo-at (suc n) f zero p = refl
+  listTo-at (suc n) f (suc m) p = listTo-at n (λ (k : ℕ). f (suc k)) m (le-of-suc-le-suc p)

@@ -3,3 +3,4 @@ pub mod Edges
 pub mod Ranges
 pub mod Scales
 pub mod Paper
+pub mod Bounds
