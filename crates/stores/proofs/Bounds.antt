@@ -1,6 +1,6 @@
 -- No record in range gives more than a full file's sums allow, so those are exact: a table's test bounds its factor, and a formula's bound is
 -- written as the formula is. Assumes nothing.
-use Prim.Native.Nat.{ℕ, _*_, _≤_}
+use Prim.Native.Nat.{_*_, _≤_}
 use native.Mathlib.Nat.{le-refl, sub-le}
 use native.Mathlib.Omega.{arith}
 use mathlib.Core.Path.{_≡_}

@@ -4,7 +4,7 @@ use mathlib.Core.Path.{_≡_, refl, ap, _∙_}
 use Prim.Native.Nat.{ℕ, zero, suc, _+_, _*_, _%_, _<_, _≤_, _^_}
 use native.Mathlib.Nat.{mul-le-mul, le-refl, mod-eq-of-lt, div-lt-iff-lt-mul}
 use native.Mathlib.Omega.{arith}
-use lib.Dec.{lit<, lit≤}
+use lib.Dec.{lit<}
 use Rattle.sums.specs.Choice.{sumTo}
 use Rattle.sums.specs.Fraction.{_over_}
 use Rattle.sums.specs.Figures.{annualDenominator, peakDenominator, partsIn, mixedOf, nearest}

@@ -6,7 +6,7 @@ use native.Mathlib.Nat.{mul-pos, mul-div-cancel}
 use native.Mathlib.Omega.{arith}
 use lib.Dec.{lit<}
 use Rattle.sums.specs.Choice.{sumTo}
-use Rattle.sums.specs.Fraction.{Frac, _over_, whole, _⊙_, _⊞_, _≈_, _per_, totalTo, partsOf}
+use Rattle.sums.specs.Fraction.{Frac, _over_, _⊙_, _⊞_, _≈_, _per_, totalTo, partsOf}
 
 pub ≈-refl : (n d : ℕ) → 0 < d → (n over d) ≈ (n over d)
 ≈-refl n d p = record { left = p; right = p; cross = refl }

@@ -1,7 +1,7 @@
 -- Mixed numbers over any denominator d. What a mixed number drops is a whole number of turns of 2 ^ 64 units, and a turn more or less
 -- changes none: so sums and multiples of mixed numbers are those of what they stand for, whatever was dropped on the way.
 -- Assumes nothing.
-use mathlib.Core.Path.{_≡_, refl, sym, ap, _∙_}
+use mathlib.Core.Path.{_≡_, sym, ap, _∙_}
 use Prim.Native.Nat.{ℕ, _+_, _*_, _/_, _%_, _^_, _<_, _≤_}
 use native.Mathlib.Nat.{le-of-lt, mod-lt, mod-eq-of-lt, div-add-mod', div-lt-iff-lt-mul, add-mul-div-right, add-mul-mod-self-right}
 use native.Mathlib.Omega.{arith}

@@ -16,7 +16,7 @@ use Rattle.sums.proofs.Products.{_⊗_}
 use Rattle.sums.proofs.Sources.{Bounded, bounded, Exactly, exactly}
 use Rattle.vehicles.specs.Fields.{distancesInRange, groupInRange, coefficientsInRange, noCoefficients}
 use Rattle.vehicles.specs.Rules.{controlOf, codeOf, annualTonnes, peakGrams, lowestOf, emissionOf, emissionsOf, inRange, barred, groupAnswer}
-use Rattle.vehicles.specs.Parts.{seasonOf, noSeason, Seasons, Mild, Seasonal, Works, drivenParts, outParts, dayParts, yearParts}
+use Rattle.vehicles.specs.Parts.{seasonOf, noSeason, Seasons, Mild, Seasonal, drivenParts, outParts, dayParts, yearParts}
 use Rattle.vehicles.specs.declared.group.Distances.{Distances}
 use Rattle.vehicles.specs.declared.group.Group.{Group}
 use Rattle.vehicles.specs.declared.group.Coefficients.{Coefficients}

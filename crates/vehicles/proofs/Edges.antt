@@ -2,7 +2,7 @@
 -- comparison that the definition makes follows from one that the code made with an edge on the same side. Assumes nothing.
 use Prim.Native.Nat.{ℕ, zero, suc, pred, _<_, _≤_, zero-le, suc-le-suc}
 use native.Mathlib.Nat.{not-suc-le-zero}
-use mathlib.Core.Path.{_≡_, refl, sym, ap, _∙_, subst}
+use mathlib.Core.Path.{_≡_, refl, sym, ap, subst}
 use mathlib.Core.Bool.{Bool, true, false, not}
 use mathlib.Core.List.{List, [], _∷_}
 use lib.Dec.{T, lit<}

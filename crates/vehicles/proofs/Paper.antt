@@ -1,6 +1,6 @@
 -- The whole numbers are the paper's fractions: each formula by a term that is written as the formula is. A control factor y is c percent; the
 -- twelve months have one factor, N times the share, which leaves their sum. Assumes nothing.
-use Prim.Native.Nat.{ℕ, _+_, _*_, _<_}
+use Prim.Native.Nat.{ℕ, _*_, _<_}
 use native.Mathlib.Omega.{arith}
 use mathlib.Core.Path.{_≡_}
 use mathlib.Core.List.{List}

@@ -2,7 +2,7 @@
 ghost use mathlib.Core.Path.{_≡_};
 ghost use mathlib.Core.Bool.{true};
 ghost use Prim.Native.Nat.{_+_, _*_, _≤_};
-ghost use Rattle.vehicles.specs.Fields.{distancesInRange, groupInRange, coefficientsInRange};
+ghost use Rattle.vehicles.specs.Fields.{distancesInRange};
 ghost use Rattle.vehicles.specs.Parts.{bothOf, drivenParts, outParts, Works};
 use super::group::Coefficients;
 use super::group::Distances;
@@ -18,19 +18,27 @@ fn both(d: Distances) -> Metres
     Metres(d.nearest.0 + d.farthest.0)
 }
 
-// The warm-up's mass, and the run's with the idling's, after their percents.
+// A mass times a percentage.
+fn percent(mass: u64, p: u64) -> u64
+    requires { ⌜ (mass ≤ 100000000000) × (p ≤ 100) ⌝ }
+    ensures { λ r. ⌜ (r ≡ mass * p) × (r ≤ 100 * mass) ⌝ }
+{
+    mass * p
+}
+
+// The warm-up's mass, and the run's with the idling's, after their percentages.
 fn warmed(warm: u64, control: u64, neutraliser: u64) -> u64
     requires { ⌜ (warm ≤ 300000000) × (control ≤ 100) × (neutraliser ≤ 100) ⌝ }
     ensures { λ r. ⌜ (r ≡ 2 * warm * control * neutraliser) × (r ≤ 6000000000000) ⌝ }
 {
-    2 * warm * control * neutraliser
+    percent(percent(2 * warm, control), neutraliser)
 }
 
 fn driven(run: u64, idle: u64, control: u64, neutraliser: u64) -> u64
     requires { ⌜ (run ≤ 40000000000) × (idle ≤ 250000000) × (control ≤ 100) × (neutraliser ≤ 100) ⌝ }
     ensures { λ r. ⌜ (r ≡ run * neutraliser + 2 * idle * control * neutraliser) × (r ≤ 9000000000000) ⌝ }
 {
-    run * neutraliser + 2 * idle * control * neutraliser
+    percent(run, neutraliser) + percent(percent(2 * idle, control), neutraliser)
 }
 
 // A run over the two distances, and the idling.

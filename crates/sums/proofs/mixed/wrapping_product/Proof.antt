@@ -3,7 +3,7 @@ use borrow.Author.Needs.{needs}
 use native.Mathlib.Omega.{arith}
 use mathlib.Core.Path.{ap}
 use mir.Facts.{fits-below}
-use Prim.Native.Nat.{ℕ, _+_, _*_, _/_, _%_, _≤_}
+use Prim.Native.Nat.{ℕ, _*_, _/_, _%_, _≤_}
 use native.Mathlib.Nat.{mul-le-mul, div-add-mod'}
 use Rattle.sums.proofs.mixed.wrapping_product.Statement.{statement}
 use Rattle.sums.proofs.mixed.wrapping_product.Tie as tie

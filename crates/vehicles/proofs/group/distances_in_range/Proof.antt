@@ -1,5 +1,4 @@
 -- The tests, as they stand.
-use borrow.Author.Needs.{needs}
 use mathlib.Core.Path.{refl}
 use Rattle.vehicles.specs.Fields.{distancesInRange}
 use Rattle.vehicles.proofs.group.distances_in_range.Statement.{statement}

@@ -1,8 +1,8 @@
 -- The total is that of the months passed, each at most a month of the largest days.
 use borrow.Author.Needs.{needs}
 use native.Mathlib.Omega.{arith}
-use mathlib.Core.Path.{_≡_, _∙_, ap, sym}
-use Prim.Native.Nat.{ℕ, _+_, _*_, _≤_, _<_, _-_}
+use mathlib.Core.Path.{_≡_}
+use Prim.Native.Nat.{ℕ, _*_, _≤_, _-_}
 use lib.ListN.{getD}
 use mathlib.Core.List.{List}
 use mir.Facts.{fits-below}

@@ -1,5 +1,4 @@
 -- The choice, by the test of the code.
-use borrow.Author.Needs.{needs}
 use mir.Facts.{toZ-ofZ}
 use Rattle.sums.proofs.Choices.{yes, no}
 use Rattle.vehicles.specs.Rules.{lowerOf}

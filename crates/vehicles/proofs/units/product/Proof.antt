@@ -1,7 +1,7 @@
 -- Two numbers of 32 bits have a product of 64.
 use borrow.Author.Needs.{needs}
 use mir.Facts.{fits-below}
-use Prim.Native.Nat.{ℕ, _≤_}
+use Prim.Native.Nat.{_≤_}
 use native.Mathlib.Nat.{mul-le-mul}
 use Rattle.vehicles.proofs.units.product.Statement.{statement}
 use Rattle.vehicles.proofs.units.product.Tie as tie

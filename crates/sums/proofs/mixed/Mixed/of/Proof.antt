@@ -1,7 +1,6 @@
 -- The quotient of a u64 has 64 bits.
 use borrow.Author.Needs.{needs}
 use native.Mathlib.Omega.{arith}
-use mathlib.Core.Path.{_≡_}
 use Prim.Native.Nat.{_/_, _<_, _^_}
 use native.Mathlib.Nat.{mod-eq-of-lt, div-le-self}
 use Rattle.sums.specs.Figures.{mixedOf}

@@ -1,7 +1,7 @@
 -- Half a unit more, and whole units of that: those of the part, and one where what is left is half a unit or more.
 use borrow.Author.Needs.{needs}
 use native.Mathlib.Omega.{arith}
-use mathlib.Core.Path.{_≡_, ap, sym, _∙_}
+use mathlib.Core.Path.{_≡_, ap, _∙_}
 use Prim.Native.Nat.{ℕ, _+_, _*_, _/_, _%_, _^_, _<_}
 use native.Mathlib.Nat.{div-le-self, add-mul-div-right}
 use Rattle.sums.specs.Figures.{partsIn, nearest}
