@@ -8,7 +8,7 @@ use mathlib.Core.Bool.{true}
 use Rattle.sums.proofs.Products.{_⊗_}
 use Rattle.sums.proofs.Sources.{Bounded, bounded}
 use Rattle.stores.specs.Fields.{handlingInRange, standingInRange, aspirationInRange}
-use Rattle.stores.specs.Rules.{handlingPeak, standingPeak, dustTonnes, aspirationPeak, aspirationTonnes}
+use Rattle.stores.specs.Rules.{handlingPeak, standingPeak, bulkTonnes, aspirationPeak, aspirationTonnes}
 use Rattle.stores.specs.Parts.{exposureParts, handlingParts, standingParts, aspirationParts}
 use Rattle.stores.specs.declared.records.Bulk.{Bulk}
 use Rattle.stores.specs.declared.records.Handling.{Handling}
@@ -22,7 +22,7 @@ exposure-most : (b : Bulk) → exposureParts b ≤ 23 * 1000 * 100 * 10
 unfolding exposureParts
 exposure-most b = k3-scaled (b .wind) .most ⊗ k4-scaled (b .openness) .most ⊗ k5-scaled (b .moisture) .most ⊗ k7-scaled (b .grain) .most
 
-pub handling-bounded : (h : Handling) → handlingInRange h ≡ true → Bounded (dustTonnes (handlingPeak h)) (handlingPeak h)
+pub handling-bounded : (h : Handling) → handlingInRange h ≡ true → Bounded (bulkTonnes (handlingPeak h)) (handlingPeak h)
 unfolding handlingParts
 handling-bounded h p =
     let b = h .bulk in
@@ -31,7 +31,7 @@ handling-bounded h p =
     ⊗ handling h p .bulk .amount ⊗ drop-scaled (h .drop) .most in
     bounded (handling-counted h) (omega arith) (omega arith)
 
-pub standing-bounded : (s : Standing) → standingInRange s ≡ true → Bounded (dustTonnes (standingPeak s)) (standingPeak s)
+pub standing-bounded : (s : Standing) → standingInRange s ≡ true → Bounded (bulkTonnes (standingPeak s)) (standingPeak s)
 unfolding standingParts
 standing-bounded s p =
     let r = standing s p in
@@ -39,7 +39,7 @@ standing-bounded s p =
     le-refl 6 ⊗ exposure-most (s .bulk) ⊗ k6-scaled (s .k6) (r .k6) .most ⊗ q-scaled (s .bulk .material) .most ⊗ r .bulk .amount in
     bounded (standing-counted s p) (omega arith) (omega arith)
 
-pub aspiration-bounded : (a : Aspiration) → aspirationInRange a ≡ true → Bounded (aspirationTonnes a) (aspirationPeak a)
+pub aspiration-bounded : (a : Aspiration) → aspirationInRange a ≡ true → Bounded (aspirationTonnes (aspirationPeak a) (a .hours)) (aspirationPeak a)
 unfolding aspirationParts
 aspiration-bounded a p =
     let r = aspiration a p in

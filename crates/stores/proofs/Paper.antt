@@ -9,8 +9,8 @@ use Rattle.sums.specs.Figures.{annualOf, peakOf}
 use Rattle.sums.proofs.Fractions.{≈-refl, ≈-⊙, ≈-per, ≈-over, parts}
 use Rattle.sums.proofs.Sources.{Counted}
 use Rattle.stores.specs.Fields.{standingInRange}
-use Rattle.stores.specs.Rules.{handlingPeak, standingPeak, dustTonnes, aspirationPeak, aspirationTonnes, given}
-use Rattle.stores.specs.Parts.{exposureParts, handlingParts, standingParts, aspirationParts, givenSums}
+use Rattle.stores.specs.Rules.{handlingPeak, standingPeak, bulkTonnes, aspirationPeak, aspirationTonnes, answer}
+use Rattle.stores.specs.Parts.{exposureParts, handlingParts, standingParts, aspirationParts, answerOf}
 use Rattle.stores.specs.declared.records.Handling.{Handling}
 use Rattle.stores.specs.declared.records.Standing.{Standing}
 use Rattle.stores.specs.declared.records.Aspiration.{Aspiration}
@@ -42,23 +42,23 @@ aspiration-parts a = ≈-over _ _ (lit< tt) (omega arith)
     (≈-⊙ (≈-⊙ (≈-refl (a .concentration) 1000 (lit< tt)) (≈-refl (a .flow) 1000 (lit< tt))) (≈-refl (10000 - a .capture) 10000 (lit< tt)))
 
 -- handling and standing alike
-dusty : {peak : Frac} {n : ℕ} → peak ≈ (n over 6000000000000) → Counted (dustTonnes peak) peak (n * 36792 * 2000) (n * 600)
-unfolding dustTonnes
-dusty e = record {
+bulk-counted : {peak : Frac} {n : ℕ} → peak ≈ (n over 6000000000000) → Counted (bulkTonnes peak) peak (n * 36792 * 2000) (n * 600)
+unfolding bulkTonnes
+bulk-counted e = record {
   annual = ≈-over _ _ (lit< tt) (omega arith) (≈-⊙ (≈-⊙ (≈-refl 31536 1000 (lit< tt)) e) (≈-refl 7 10 (lit< tt)));
   peak = ≈-over _ _ (lit< tt) (omega arith) e;
 }
 
-pub handling-counted : (h : Handling) → Counted (dustTonnes (handlingPeak h)) (handlingPeak h) (handlingParts h * 36792 * 2000) (handlingParts h * 600)
-handling-counted h = dusty (handling-parts h)
+pub handling-counted : (h : Handling) → Counted (bulkTonnes (handlingPeak h)) (handlingPeak h) (handlingParts h * 36792 * 2000) (handlingParts h * 600)
+handling-counted h = bulk-counted (handling-parts h)
 
 pub standing-counted :
     (s : Standing) → standingInRange s ≡ true
-    → Counted (dustTonnes (standingPeak s)) (standingPeak s) (standingParts s * 36792 * 2000) (standingParts s * 600)
-standing-counted s h = dusty (standing-parts s h)
+    → Counted (bulkTonnes (standingPeak s)) (standingPeak s) (standingParts s * 36792 * 2000) (standingParts s * 600)
+standing-counted s h = bulk-counted (standing-parts s h)
 
 pub aspiration-counted :
-    (a : Aspiration) → Counted (aspirationTonnes a) (aspirationPeak a) (aspirationParts a * a .hours * 3600 * 2000) (aspirationParts a * 600 * 600)
+    (a : Aspiration) → Counted (aspirationTonnes (aspirationPeak a) (a .hours)) (aspirationPeak a) (aspirationParts a * a .hours * 3600 * 2000) (aspirationParts a * 600 * 600)
 unfolding aspirationTonnes
 aspiration-counted a =
     let e = aspiration-parts a in
@@ -68,5 +68,5 @@ aspiration-counted a =
     }
 
 -- the sums of so many units are the rule's answer
-pub summed : {tonnes rate : Frac} {a p : ℕ} (dust : ℕ) → Counted tonnes rate a p → givenSums dust (annualOf a) (peakOf p) ≡ given dust tonnes rate
+pub summed : {tonnes rate : Frac} {a p : ℕ} (dust : ℕ) → Counted tonnes rate a p → answerOf dust (annualOf a) (peakOf p) ≡ answer dust tonnes rate
 summed dust e = rw (parts (e .annual), parts (e .peak))

@@ -29,5 +29,5 @@ unfoldable pub aspirationParts : Aspiration → ℕ
 aspirationParts a = a .concentration * a .flow * (10000 - a .capture)
 
 -- an answer by its sums
-abbrev pub givenSums : ℕ → AnnualSum → PeakSum → StoreAnswer
-givenSums dust a p = record { verdict = accepted; emission = record { code = codeOf dust; annual = a; peak = p } }
+abbrev pub answerOf : ℕ → AnnualSum → PeakSum → StoreAnswer
+answerOf dust a p = record { verdict = accepted; emission = record { code = codeOf dust; annual = a; peak = p } }

@@ -98,16 +98,16 @@ standingPeak s =
     ⊙ numbered qTable (s .bulk .material) ⊙ whole (s .bulk .amount)
 
 -- "Annual tonnes of both: 31.536 × peak × 0.7"
-unfoldable pub dustTonnes : Frac → Frac
-dustTonnes peak = 31536 over 1000 ⊙ peak ⊙ 7 over 10
+unfoldable pub bulkTonnes : Frac → Frac
+bulkTonnes peak = 31536 over 1000 ⊙ peak ⊙ 7 over 10
 
 -- "Aspiration peak: C × V × (1 - capture)": C in mg/m³, V in litres a second, capture in hundredths of a percent
 unfoldable pub aspirationPeak : Aspiration → Frac
 aspirationPeak a = (a .concentration over 1000) ⊙ (a .flow over 1000) ⊙ ((10000 - a .capture) over 10000)
 
 -- "Annual tonnes: 0.0036 × peak × hours"
-unfoldable pub aspirationTonnes : Aspiration → Frac
-aspirationTonnes a = 36 over 10000 ⊙ aspirationPeak a ⊙ whole (a .hours)
+unfoldable pub aspirationTonnes : Frac → ℕ → Frac
+aspirationTonnes peak hours = 36 over 10000 ⊙ peak ⊙ whole hours
 
 -- "3 dust code, 1 for 0152, 2 for 2908, 3 for 2909"
 abbrev pub dustCodes : List ℕ
@@ -117,17 +117,17 @@ abbrev pub codeOf : ℕ → ℕ
 codeOf dust = getD dustCodes (dust - 1) 0
 
 -- what a record in range gives to the code of its dust; one out of range is refused 9, with zero figures and slot 0
-abbrev pub given : ℕ → Frac → Frac → StoreAnswer
-given dust tonnes peak = record { verdict = accepted; emission = emitted (codeOf dust) tonnes peak }
+abbrev pub answer : ℕ → Frac → Frac → StoreAnswer
+answer dust tonnes peak = record { verdict = accepted; emission = emitted (codeOf dust) tonnes peak }
 
 abbrev pub outOfRange : StoreAnswer
 outOfRange = record { verdict = refusedBy 9; emission = noEmission }
 
 unfoldable pub handlingAnswer : Handling → StoreAnswer
-handlingAnswer h = if_then_else (handlingInRange h) (given (h .bulk .dust) (dustTonnes (handlingPeak h)) (handlingPeak h)) outOfRange
+handlingAnswer h = if_then_else (handlingInRange h) (answer (h .bulk .dust) (bulkTonnes (handlingPeak h)) (handlingPeak h)) outOfRange
 
 unfoldable pub standingAnswer : Standing → StoreAnswer
-standingAnswer s = if_then_else (standingInRange s) (given (s .bulk .dust) (dustTonnes (standingPeak s)) (standingPeak s)) outOfRange
+standingAnswer s = if_then_else (standingInRange s) (answer (s .bulk .dust) (bulkTonnes (standingPeak s)) (standingPeak s)) outOfRange
 
 unfoldable pub aspirationAnswer : Aspiration → StoreAnswer
-aspirationAnswer a = if_then_else (aspirationInRange a) (given (a .dust) (aspirationTonnes a) (aspirationPeak a)) outOfRange
+aspirationAnswer a = if_then_else (aspirationInRange a) (answer (a .dust) (aspirationTonnes (aspirationPeak a) (a .hours)) (aspirationPeak a)) outOfRange

@@ -5,7 +5,7 @@ ghost use Prim.Native.Nat.{_*_, _≤_};
 ghost use Rattle.sums.specs.Figures.{annualOf, peakOf};
 ghost use Rattle.stores.specs.Fields.{bulkInRange, handlingInRange, standingInRange, aspirationInRange};
 ghost use Rattle.stores.specs.Rules.{outOfRange, handlingAnswer, standingAnswer, aspirationAnswer};
-ghost use Rattle.stores.specs.Parts.{exposureParts, handlingParts, standingParts, aspirationParts, givenSums};
+ghost use Rattle.stores.specs.Parts.{exposureParts, handlingParts, standingParts, aspirationParts, answerOf};
 use super::records;
 use super::records::Aspiration;
 use super::records::Bulk;
@@ -60,9 +60,9 @@ fn aspiration_parts(a: Aspiration) -> u64
     (a.concentration as u64) * (a.flow as u64) * ((10_000 - a.capture) as u64)
 }
 
-fn given(dust: u8, annual: AnnualSum, peak: PeakSum) -> StoreAnswer
+fn answer(dust: u8, annual: AnnualSum, peak: PeakSum) -> StoreAnswer
     requires { ⌜ (1 ≤ dust) × (dust ≤ 3) ⌝ }
-    ensures { λ r. ⌜ r ≡ givenSums dust annual peak ⌝ }
+    ensures { λ r. ⌜ r ≡ answerOf dust annual peak ⌝ }
 {
     StoreAnswer {
         verdict: Verdict { number: 0, slot: 0 },
@@ -74,24 +74,26 @@ fn given(dust: u8, annual: AnnualSum, peak: PeakSum) -> StoreAnswer
     }
 }
 
-// A peak in 6,000,000,000,000ths, and 31.536 times 0.7 of it a year.
-fn given_bulk(dust: u8, parts: u64) -> StoreAnswer
+// A peak in 6,000,000,000,000ths of a gram per second, 600 exact units each. 31.536 times 0.7 of one is 36,792 times a 10,000,000,000,000,000th of a
+// tonne, which is 2,000 exact units.
+fn bulk_answer(dust: u8, parts: u64) -> StoreAnswer
     requires { ⌜ (1 ≤ dust) × (dust ≤ 3) ⌝ }
-    ensures { λ r. ⌜ r ≡ givenSums dust (annualOf (parts * 36792 * 2000)) (peakOf (parts * 600)) ⌝ }
+    ensures { λ r. ⌜ r ≡ answerOf dust (annualOf (parts * 36792 * 2000)) (peakOf (parts * 600)) ⌝ }
 {
-    given(
+    answer(
         dust,
         AnnualSum::of(parts).times(36_792).times(2_000),
         PeakSum::of(parts).times(600),
     )
 }
 
-// A peak in 10,000,000,000ths, and 0.0036 of it for each hour of a year.
-fn given_aspiration(dust: u8, parts: u64, hours: u16) -> StoreAnswer
+// A peak in 10,000,000,000ths of a gram per second, 600 times 600 exact units each. 0.0036 of one, for each hour of a year, is 3,600 times a
+// 10,000,000,000,000,000th of a tonne, which is 2,000 exact units.
+fn aspiration_answer(dust: u8, parts: u64, hours: u16) -> StoreAnswer
     requires { ⌜ (1 ≤ dust) × (dust ≤ 3) ⌝ }
-    ensures { λ r. ⌜ r ≡ givenSums dust (annualOf (parts * hours * 3600 * 2000)) (peakOf (parts * 600 * 600)) ⌝ }
+    ensures { λ r. ⌜ r ≡ answerOf dust (annualOf (parts * hours * 3600 * 2000)) (peakOf (parts * 600 * 600)) ⌝ }
 {
-    given(
+    answer(
         dust,
         AnnualSum::of(parts).times(hours).times(3_600).times(2_000),
         PeakSum::of(parts).times(600).times(600),
@@ -112,7 +114,7 @@ pub fn handling_emission(h: Handling) -> StoreAnswer
 {
     if records::handling_in_range(h) {
         let b = h.bulk;
-        given_bulk(b.dust, handling_parts(h))
+        bulk_answer(b.dust, handling_parts(h))
     } else {
         out_of_range()
     }
@@ -123,7 +125,7 @@ pub fn standing_emission(s: Standing) -> StoreAnswer
 {
     if records::standing_in_range(s) {
         let b = s.bulk;
-        given_bulk(b.dust, standing_parts(s))
+        bulk_answer(b.dust, standing_parts(s))
     } else {
         out_of_range()
     }
@@ -133,7 +135,7 @@ pub fn aspiration_emission(a: Aspiration) -> StoreAnswer
     ensures { λ r. ⌜ r ≡ aspirationAnswer a ⌝ }
 {
     if records::aspiration_in_range(a) {
-        given_aspiration(a.dust, aspiration_parts(a), a.hours)
+        aspiration_answer(a.dust, aspiration_parts(a), a.hours)
     } else {
         out_of_range()
     }

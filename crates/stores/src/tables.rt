@@ -2,7 +2,7 @@
 ghost use mathlib.Core.Path.{_≡_};
 ghost use Prim.Native.Nat.{_≤_};
 ghost use Rattle.sums.specs.Fraction.{partsOf};
-ghost use Rattle.sums.specs.Table.{bandOf, bounds};
+ghost use Rattle.sums.specs.Table.{lineOf, bounds};
 ghost use Rattle.stores.specs.Rules.{numbered, k1Table, k2Table, qTable, k3Table, k3Of, k4Table, k5Table, k5Of, k6Of, k7Table, k7Of, dropTable, codeOf};
 
 // Table 2, by material: K1 and K2 in hundredths, Q in thousandths.
@@ -55,7 +55,7 @@ pub(crate) fn q(material: u8) -> u64
 }
 
 fn wind_band(wind: u16) -> usize
-    ensures { λ r. ⌜ r ≡ bandOf (bounds k3Table) wind ⌝ }
+    ensures { λ r. ⌜ r ≡ lineOf (bounds k3Table) wind ⌝ }
 {
     match wind {
         0..=20 => 0,
@@ -83,7 +83,7 @@ pub(crate) fn k4(openness: u8) -> u64
 }
 
 fn moisture_band(moisture: u16) -> usize
-    ensures { λ r. ⌜ r ≡ bandOf (bounds k5Table) moisture ⌝ }
+    ensures { λ r. ⌜ r ≡ lineOf (bounds k5Table) moisture ⌝ }
 {
     match moisture {
         0..=5 => 0,
@@ -118,7 +118,7 @@ pub(crate) fn k6(hundredths: u16) -> u64
 }
 
 fn grain_band(grain: u16) -> usize
-    ensures { λ r. ⌜ r ≡ bandOf (bounds k7Table) grain ⌝ }
+    ensures { λ r. ⌜ r ≡ lineOf (bounds k7Table) grain ⌝ }
 {
     match grain {
         0..=1 => 0,

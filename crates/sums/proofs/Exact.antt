@@ -10,7 +10,7 @@ use Rattle.sums.specs.Fraction.{_over_}
 use Rattle.sums.specs.Figures.{annualDenominator, peakDenominator, partsIn, mixedOf, nearest}
 use Rattle.sums.specs.declared.mixed.Mixed.{Mixed}
 use Rattle.sums.proofs.Choices.{sumTo-bound}
-use Rattle.sums.proofs.Turns.{mixed-plus, mixed-exact}
+use Rattle.sums.proofs.Wrapping.{mixed-plus, mixed-exact}
 
 -- no source gives a code more than this, in exact units
 abbrev pub annualMost : ℕ

@@ -3,7 +3,8 @@ pub mod Choices
 pub mod Products
 pub mod Fractions
 pub mod Tables
-pub mod Turns
+pub mod Wrapping
 pub mod Rounding
 pub mod Exact
+pub mod Figure
 pub mod Sources

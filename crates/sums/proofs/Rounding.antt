@@ -1,4 +1,4 @@
--- What a reader may want to know of rounding: 01's words, "within half of that digit", and "an exact half goes up". By division alone.
+-- What a reader may want to know of rounding: the letter's words, "it lies within half of that digit, and an exact half goes up". By division alone.
 -- Assumes nothing.
 use mathlib.Core.Path.{_≡_}
 use mathlib.Core.Logic.{_↔_}

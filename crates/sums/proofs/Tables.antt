@@ -12,21 +12,21 @@ use lib.Dec.{leb, ltb, eqb, lit<}
 use lib.ListN.{getD, length}
 use Rattle.sums.specs.Choice.{if_then_else, allOf}
 use Rattle.sums.specs.Fraction.{Frac, whole, _over_, _≈_, partsOf}
-use Rattle.sums.specs.Table.{Line, upTo, bandOf, bounds}
+use Rattle.sums.specs.Table.{Line, upTo, lineOf, bounds}
 use Rattle.sums.proofs.Choices.{nth, left, right}
 
 -- x is in the first band, in a later one, or past the last
-pub here : (b x : ℕ) (bs : List ℕ) → x < suc b → 0 ≡ bandOf (b ∷ bs) x
-unfolding bandOf if_then_else
+pub here : (b x : ℕ) (bs : List ℕ) → x < suc b → 0 ≡ lineOf (b ∷ bs) x
+unfolding lineOf if_then_else
 here b x bs h = simp (le-leb x b (le-of-suc-le-suc h))
 
-pub past : (b x r : ℕ) (bs : List ℕ) → b < x → 0 < r → pred r ≡ bandOf bs x → r ≡ bandOf (b ∷ bs) x
-unfolding bandOf if_then_else
+pub past : (b x r : ℕ) (bs : List ℕ) → b < x → 0 < r → pred r ≡ lineOf bs x → r ≡ lineOf (b ∷ bs) x
+unfolding lineOf if_then_else
 past b x zero bs h p e = absurd (not-suc-le-zero p)
 past b x (suc k) bs h p e = simp (lt-leb x b h) (ap suc e)
 
-pub end : (x : ℕ) → 0 ≡ bandOf [] x
-unfolding bandOf
+pub end : (x : ℕ) → 0 ≡ lineOf [] x
+unfolding lineOf
 end x = refl
 
 pub ruleset bands = (lit<, here, past, end)
@@ -45,10 +45,10 @@ picked true v w k vs e = refl
 picked false v w k vs e = e
 
 -- the value at x's band is the table's at x
-column : (ls : List Line) (above : Frac) (x : ℕ) → getD (values ls above) (bandOf (bounds ls) x) (whole 0) ≡ upTo ls above x
-unfolding bandOf upTo
+column : (ls : List Line) (above : Frac) (x : ℕ) → getD (values ls above) (lineOf (bounds ls) x) (whole 0) ≡ upTo ls above x
+unfolding lineOf upTo
 column [] above x = refl
-column (l ∷ ls) above x = picked (leb x (l .bound)) (l .value) (upTo ls above x) (bandOf (bounds ls) x) (values ls above) (column ls above x)
+column (l ∷ ls) above x = picked (leb x (l .bound)) (l .value) (upTo ls above x) (lineOf (bounds ls) x) (values ls above) (column ls above x)
 
 -- what is looked up in the whole parts is the whole parts of what is looked up
 pub scaled-at : (d : ℕ) (fs : List Frac) (i : ℕ) → getD (scale d fs) i 0 ≡ partsOf d (getD fs i (whole 0))
@@ -57,14 +57,14 @@ scaled-at d [] i = omega arith
 scaled-at d (f ∷ fs) zero = refl
 scaled-at d (f ∷ fs) (suc i) = scaled-at d fs i
 
-pub looked-up : (d : ℕ) (ls : List Line) (above : Frac) (x : ℕ) → getD (scale d (values ls above)) (bandOf (bounds ls) x) 0 ≡ partsOf d (upTo ls above x)
-looked-up d ls above x = scaled-at d (values ls above) (bandOf (bounds ls) x) ∙ ap (partsOf d) (column ls above x)
+pub looked-up : (d : ℕ) (ls : List Line) (above : Frac) (x : ℕ) → getD (scale d (values ls above)) (lineOf (bounds ls) x) 0 ≡ partsOf d (upTo ls above x)
+looked-up d ls above x = scaled-at d (values ls above) (lineOf (bounds ls) x) ∙ ap (partsOf d) (column ls above x)
 
 -- x's band is one of the table's places
-pub band-below : (bs : List ℕ) (x : ℕ) → bandOf bs x < suc (length bs)
-unfolding bandOf if_then_else
-band-below [] x = lit< tt
-band-below (b ∷ bs) x = fits (leb x b) (bandOf bs x) (length bs) (band-below bs x)
+pub line-below : (bs : List ℕ) (x : ℕ) → lineOf bs x < suc (length bs)
+unfolding lineOf if_then_else
+line-below [] x = lit< tt
+line-below (b ∷ bs) x = fits (leb x b) (lineOf bs x) (length bs) (line-below bs x)
   where
     fits : (t : Bool) (k n : ℕ) → k < suc n → if_then_else t 0 (suc k) < suc (suc n)
     fits true k n h = suc-le-suc zero-le
@@ -103,4 +103,4 @@ entry d b (x ∷ l) h zero = tested d b x (left (allOf (scaledTests d b x)) (all
 entry d b (x ∷ l) h (suc i) = entry d b l (right (allOf (scaledTests d b x)) (allScaled d b l) h) i
 
 pub entry-up-to : (d b : ℕ) (ls : List Line) (above : Frac) → allScaled d b (values ls above) ≡ true → (x : ℕ) → Scaled d b (upTo ls above x)
-entry-up-to d b ls above h x = rw (column ls above x) at (entry d b (values ls above) h (bandOf (bounds ls) x))
+entry-up-to d b ls above h x = rw (column ls above x) at (entry d b (values ls above) h (lineOf (bounds ls) x))

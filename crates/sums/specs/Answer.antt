@@ -12,7 +12,7 @@ accepted = record { number = 0; slot = 0 }
 abbrev pub refusedBy : ℕ → Verdict
 refusedBy n = record { number = n; slot = 0 }
 
--- what a source gives to the code: so many tonnes a year, so many grams per second at the peak
+-- what a source gives to the code: so many tonnes a year, so many grams per second at the peak, exactly (`proofs/Sources`)
 abbrev pub emitted : ℕ → Frac → Frac → Emission
 emitted code tonnes rate = record { code = code; annual = annualSum tonnes; peak = peakSum rate }
 

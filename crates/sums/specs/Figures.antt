@@ -1,5 +1,5 @@
 -- 01, "Figures": the exact units, the sums counted in them, and rounding.
-use Prim.Native.Nat.{ℕ, _+_, _*_, _/_, _%_, _^_, _≤_}
+use Prim.Native.Nat.{ℕ, _+_, _*_, _/_, _%_, _^_}
 use Rattle.sums.specs.Fraction.{Frac, _over_, partsOf}
 use Rattle.sums.specs.declared.mixed.Mixed.{Mixed}
 use Rattle.sums.specs.declared.annual.AnnualSum.{AnnualSum}
@@ -17,11 +17,6 @@ partsIn d m = m .whole * d + m .part
 unfoldable pub mixedOf : ℕ → ℕ → Mixed
 mixedOf d x = record { whole = x / d % 2 ^ 64; part = x % d }
 
--- the denominators that a mixed number is worked over
-pub record Radix (d : ℕ) : Type 0 where
-  pub least : 131072 ≤ d
-  pub most : d ≤ 140737488355328
-
 -- "Annual: whole millionths of a tonne. Peak: whole ten-millionths of a gram per second. Every exact unit has one denominator":
 -- the exact units in a millionth of a tonne, and in a ten-millionth of a gram per second
 abbrev pub annualDenominator : ℕ
@@ -29,6 +24,13 @@ annualDenominator = 20000000000000
 
 abbrev pub peakDenominator : ℕ
 peakDenominator = 360000000
+
+-- and so in a tonne, and in a gram per second
+abbrev pub tonneParts : ℕ
+tonneParts = 1000000 * annualDenominator
+
+abbrev pub gramParts : ℕ
+gramParts = 10000000 * peakDenominator
 
 -- the exact units of a sum, and the sum of so many
 abbrev pub annualParts : AnnualSum → ℕ
@@ -52,7 +54,7 @@ peakFigure s = nearest (peakParts s over peakDenominator)
 
 -- the sum of so many tonnes, and of so many grams per second
 abbrev pub annualSum : Frac → AnnualSum
-annualSum x = annualOf (partsOf (1000000 * annualDenominator) x)
+annualSum x = annualOf (partsOf tonneParts x)
 
 abbrev pub peakSum : Frac → PeakSum
-peakSum x = peakOf (partsOf (10000000 * peakDenominator) x)
+peakSum x = peakOf (partsOf gramParts x)

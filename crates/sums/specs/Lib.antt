@@ -4,3 +4,4 @@ pub mod Fraction
 pub mod Table
 pub mod Figures
 pub mod Answer
+pub mod Arithmetic

@@ -18,9 +18,9 @@ upTo [] above x = above
 upTo (l ∷ ls) above x = if_then_else (leb x (l .bound)) (l .value) (upTo ls above x)
 
 -- the place of that line
-unfoldable pub bandOf : List ℕ → ℕ → ℕ
-bandOf [] x = 0
-bandOf (b ∷ bs) x = if_then_else (leb x b) 0 (suc (bandOf bs x))
+unfoldable pub lineOf : List ℕ → ℕ → ℕ
+lineOf [] x = 0
+lineOf (b ∷ bs) x = if_then_else (leb x b) 0 (suc (lineOf bs x))
 
 abbrev pub bounds : List Line → List ℕ
 bounds ls = map (λ (l : Line). l .bound) ls

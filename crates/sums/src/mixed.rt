@@ -1,7 +1,8 @@
 // Mixed numbers over a denominator that the caller names: the arithmetic that both sum types share.
 ghost use mathlib.Core.Path.{_≡_};
 ghost use Prim.Native.Nat.{_+_, _*_, _/_, _%_, _^_, _≤_};
-ghost use Rattle.sums.specs.Figures.{partsIn, mixedOf, Radix, nearest};
+ghost use Rattle.sums.specs.Arithmetic.{Denominator};
+ghost use Rattle.sums.specs.Figures.{partsIn, mixedOf, nearest};
 ghost use Rattle.sums.specs.Fraction.{_over_};
 use std::num::wrapping_add_u64;
 
@@ -35,14 +36,14 @@ fn wrapping_product(x: u64, k: u64) -> u64
 
 // The whole units in so many parts, and what is left of one.
 fn units_in(parts: u64, d: u64) -> u64
-    requires { ⌜ Radix d ⌝ }
+    requires { ⌜ Denominator d ⌝ }
     ensures { λ r. ⌜ (r ≡ parts / d) × (r ≤ 140737488355328) ⌝ }
 {
     parts / d
 }
 
 fn rest_of(parts: u64, d: u64) -> u64
-    requires { ⌜ Radix d ⌝ }
+    requires { ⌜ Denominator d ⌝ }
     ensures { λ r. ⌜ (r ≡ parts % d) × (r ≤ 140737488355328) ⌝ }
 {
     parts % d
@@ -50,7 +51,7 @@ fn rest_of(parts: u64, d: u64) -> u64
 
 impl Mixed {
     pub(crate) fn of(x: u64, d: u64) -> Mixed
-        requires { ⌜ Radix d ⌝ }
+        requires { ⌜ Denominator d ⌝ }
         ensures { λ r. ⌜ r ≡ mixedOf d x ⌝ }
     {
         Mixed {
@@ -60,7 +61,7 @@ impl Mixed {
     }
 
     pub(crate) fn plus(self, other: Mixed, d: u64) -> Mixed
-        requires { ⌜ Radix d ⌝ }
+        requires { ⌜ Denominator d ⌝ }
         ensures { λ r. ⌜ r ≡ mixedOf d (partsIn d self + partsIn d other) ⌝ }
     {
         let units = units_in(self.part, d) + units_in(other.part, d);
@@ -72,7 +73,7 @@ impl Mixed {
     }
 
     pub(crate) fn times(self, k: u16, d: u64) -> Mixed
-        requires { ⌜ Radix d ⌝ }
+        requires { ⌜ Denominator d ⌝ }
         ensures { λ r. ⌜ r ≡ mixedOf d (partsIn d self * k) ⌝ }
     {
         let n = wide(k);
@@ -85,7 +86,7 @@ impl Mixed {
     }
 
     pub(crate) fn rounded(self, d: u64) -> u64
-        requires { ⌜ Radix d ⌝ }
+        requires { ⌜ Denominator d ⌝ }
         ensures { λ r. ⌜ r ≡ nearest (partsIn d self over d) % 2 ^ 64 ⌝ }
     {
         let up = (2 * rest_of(self.part, d) + d) / (2 * d);

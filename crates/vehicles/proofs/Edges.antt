@@ -2,11 +2,14 @@
 -- comparison that the definition makes follows from one that the code made with an edge on the same side. Assumes nothing.
 use Prim.Native.Nat.{ℕ, zero, suc, pred, _<_, _≤_, zero-le, suc-le-suc}
 use native.Mathlib.Nat.{not-suc-le-zero}
-use mathlib.Core.Path.{_≡_, refl, sym, ap, subst}
+use native.Mathlib.Omega.{arith}
+use native.Mathlib.Decide.{decLt}
+use mathlib.Core.Path.{_≡_, refl, sym, ap, _∙_, subst}
 use mathlib.Core.Bool.{Bool, true, false, not}
 use mathlib.Core.List.{List, [], _∷_}
-use lib.Dec.{T, lit<}
-use lib.IntN.{ℤ}
+use borrow.Author.Tests.{le-leb, lt-leb}
+use lib.Dec.{T, leb, lit<, leb·suc-suc}
+use lib.IntN.{ℤ, pos, negsuc}
 use lib.ListN.{length}
 use lib.Signed.{ltZ, leZ, ltZ-yes, leZ-yes, ltZ-no, <ℤ-≤ℤ-trans, clashℤ}
 use mir.Syntax.{w16}
@@ -14,7 +17,7 @@ use mir.Val.{SFits, toZ, ofZ}
 use mir.Facts.{toZ-ofZ}
 use Rattle.sums.specs.Choice.{if_then_else}
 use Rattle.sums.proofs.Choices.{both}
-use Rattle.vehicles.specs.Rules.{below}
+use Rattle.vehicles.specs.Rules.{below, place}
 
 -- a local holds t's bits, and a test reads t back from them
 abbrev pub held : ℤ → ℤ
@@ -49,10 +52,35 @@ pub end : (t : ℤ) → 0 ≡ below [] t
 unfolding below
 end t = refl
 
-pub ruleset edges = (lit<, here, past, end, refl)
+-- above 5.0 is not below 5.1
+not-le : (m n : ℕ) → leb (suc n) m ≡ not (leb m n)
+not-le m n =
+    elim (decLt n m) [
+      | yes l ↦ rw (le-leb (suc n) m l, lt-leb m n l)
+      | no l ↦ (let h : m ≤ n = omega arith in rw (le-leb m n h, lt-leb (suc n) m (omega arith)))
+    ]
+
+above : (n : ℕ) (t : ℤ) → ltZ (pos n) t ≡ not (ltZ t (pos (suc n)))
+above n (pos m) = not-le m n ∙ ap not (sym (leb·suc-suc m n))
+above n (negsuc m) = refl
+
+pub warm : (t b : ℤ) (es : List ℤ) → ltZ (held t) b ≡ false → leZ (pos 51) b ≡ true → SFits w16 t → 0 ≡ place es t
+unfolding place if_then_else
+warm t b es h l f = simp (above 50 t, not-under t b (pos 51) (simp (toZ-ofZ f) at h) l)
+
+pub cooler : (t b : ℤ) (r : ℕ) (es : List ℤ) → ltZ (held t) b ≡ true → leZ b (pos 51) ≡ true → SFits w16 t → 0 < r → pred r ≡ below es t → r ≡ place es t
+unfolding place if_then_else
+cooler t b zero es h l f p q = absurd (not-suc-le-zero p)
+cooler t b (suc r) es h l f p q = simp (above 50 t, under t b (pos 51) (simp (toZ-ofZ f) at h) l) (ap suc q)
+
+pub ruleset edges = (lit<, warm, cooler, here, past, end, refl)
 
 -- a place is no higher than there are edges
-pub below-most : (es : List ℤ) (t : ℤ) → below es t ≤ length es
+below-most : (es : List ℤ) (t : ℤ) → below es t ≤ length es
 unfolding below
 below-most [] t = zero-le
 below-most (e ∷ es) t = both (λ (n : ℕ). n ≤ suc (length es)) (ltZ t e) (suc-le-suc (below-most es t)) zero-le
+
+pub place-most : (es : List ℤ) (t : ℤ) → place es t ≤ suc (length es)
+unfolding place
+place-most es t = both (λ (n : ℕ). n ≤ suc (length es)) (ltZ (pos 50) t) zero-le (suc-le-suc (below-most es t))

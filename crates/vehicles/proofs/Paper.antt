@@ -8,80 +8,77 @@ use lib.Dec.{lit<}
 use lib.IntN.{ℤ, pos}
 use lib.ListN.{getD}
 use Rattle.sums.specs.Fraction.{Frac, _over_, _≈_, partsOf}
-use Rattle.sums.specs.Figures.{annualDenominator, peakDenominator}
-use Rattle.sums.proofs.Choices.{sumTo-times}
+use Rattle.sums.specs.Figures.{tonneParts, gramParts}
+use Rattle.sums.proofs.Choices.{sumTo-times, listTo-at}
 use Rattle.sums.proofs.Fractions.{≈-refl, ≈-⊙, ≈-⊞, ≈-per, ≈-over, totalTo-parts, parts}
 use Rattle.sums.proofs.Sources.{Counted}
 use Rattle.vehicles.specs.Fields.{noMinute, noKilometre}
-use Rattle.vehicles.specs.Rules.{columnOf, minutesOf, driveGrams, outGrams, inGrams, monthGrams, annualTonnes, peakGrams, controlOf, lowestOf, emissionOf}
-use Rattle.vehicles.specs.Parts.{seasonOf, noSeason, Seasons, bothOf, drivenParts, outParts, dayParts, yearParts, emissionParts}
+use Rattle.vehicles.specs.Rules.{periodAt, minutesAt, runAndIdle, outGrams, inGrams, monthGrams, annualTonnes, peakGrams, controlOf, lowestOf, emissionOf}
+use Rattle.vehicles.specs.Parts.{conditionsAt, conditionsOf, noConditions, distanceSum, runAndIdleParts, outParts, dayParts, monthParts, yearParts, emissionParts}
 use Rattle.vehicles.specs.declared.group.Distances.{Distances}
 use Rattle.vehicles.specs.declared.group.Group.{Group}
 use Rattle.vehicles.specs.declared.group.Coefficients.{Coefficients}
-use Rattle.vehicles.specs.declared.warmup.Season.{Season}
 use Rattle.vehicles.proofs.Scales.{minutes, control}
 
 module _ (g : Group) (k : Coefficients) (y : Frac) (c : ℕ) (same : y ≈ (c over 100)) where
   running : (g .neutraliser .running over 100) ≈ (g .neutraliser .running over 100)
   running = ≈-refl (g .neutraliser .running) 100 (lit< tt)
 
-  drive : (column : ℕ) (d : Distances) → driveGrams g k y column d ≈ (drivenParts g k c column d over 2000000000)
-  unfolding driveGrams drivenParts
-  drive column d =
+  run-and-idle : (period : ℕ) (d : Distances) → runAndIdle g k y period d ≈ (runAndIdleParts g k c period d over 2000000000)
+  unfolding runAndIdle runAndIdleParts
+  run-and-idle period d =
       ≈-⊞
-      (≈-⊙ (≈-⊙ (≈-refl (getD (k .run) column noKilometre .0) 10000 (lit< tt)) (≈-refl (bothOf d .0) 2000 (lit< tt))) running)
+      (≈-⊙ (≈-⊙ (≈-refl (getD (k .run) period noKilometre .0) 10000 (lit< tt)) (≈-refl (distanceSum d .0) 2000 (lit< tt))) running)
       (≈-over (2 * (k .idle .0 * g .idle .0) * c * g .neutraliser .running) 2000000000 (lit< tt) (omega arith)
       (≈-⊙ (≈-⊙ (≈-⊙ (≈-refl (k .idle .0) 10000 (lit< tt)) (≈-refl (g .idle .0) 10 (lit< tt))) same) running))
 
-  out : (t : ℤ) → outGrams g k y t ≈ (outParts g k c (seasonOf g t) over 2000000000)
-  unfolding outGrams outParts seasonOf
+  out : (t : ℤ) → outGrams g k y (periodAt g t) (minutesAt g t) ≈ (outParts g k c (conditionsAt g t) over 2000000000)
+  unfolding outGrams outParts conditionsAt
   out t =
-      let w = getD (k .warmup) (columnOf g t) noMinute .0 in
-      let m = partsOf 10 (minutesOf g t) in
+      let w = getD (k .warmup) (periodAt g t) noMinute .0 in
+      let m = partsOf 10 (minutesAt g t) in
       ≈-⊞
       (≈-over (2 * (w * m) * c * g .neutraliser .warming) 2000000000 (lit< tt) (omega arith)
       (≈-⊙ (≈-⊙ (≈-⊙ (≈-refl w 10000 (lit< tt)) (minutes g t .same)) same) (≈-refl (g .neutraliser .warming) 100 (lit< tt))))
-      (drive (columnOf g t) (g .outward))
+      (run-and-idle (periodAt g t) (g .outward))
 
-  month : (t : ℤ) (days : ℕ) → monthGrams g k y t days ≈ ((dayParts g k c (seasonOf g t) * days * (g .share * g .vehicles)) over 200000000000)
-  unfolding monthGrams inGrams dayParts seasonOf
+  month : (t : ℤ) (days : ℕ) →
+      monthGrams g k y (periodAt g t) (minutesAt g t) days ≈ ((dayParts g k c (conditionsAt g t) * days * (g .share * g .vehicles)) over 200000000000)
+  unfolding monthGrams inGrams dayParts conditionsAt
   month t days =
-      ≈-over (dayParts g k c (seasonOf g t) * days * (g .share * g .vehicles)) 200000000000 (lit< tt) (omega arith)
+      ≈-over (dayParts g k c (conditionsAt g t) * days * (g .share * g .vehicles)) 200000000000 (lit< tt) (omega arith)
       (≈-⊙
-      (≈-⊙ (≈-⊙ (≈-⊞ (out t) (drive (columnOf g t) (g .inward))) (≈-refl (g .share) 100 (lit< tt))) (≈-refl (g .vehicles) 1 (lit< tt)))
+      (≈-⊙ (≈-⊙ (≈-⊞ (out t) (run-and-idle (periodAt g t) (g .inward))) (≈-refl (g .share) 100 (lit< tt))) (≈-refl (g .vehicles) 1 (lit< tt)))
       (≈-refl days 1 (lit< tt)))
 
-  abbrev day : List Season → ℕ → ℕ
-  day seasons m = dayParts g k c (getD seasons m noSeason) * getD (g .days) m 0
-
-  year : (ts : List ℤ) (seasons : List Season) → Seasons g ts seasons →
-      annualTonnes g ts k y ≈ ((yearParts g k c seasons * g .share * g .vehicles * 100) over (1000000 * annualDenominator))
-  unfolding annualTonnes yearParts
-  year ts seasons h =
-      ≈-over (yearParts g k c seasons * g .share * g .vehicles * 100) (1000000 * annualDenominator) (lit< tt) (omega arith)
+  year : (ts : List ℤ) → annualTonnes g ts k y ≈ ((yearParts g k c (conditionsOf g ts) * g .share * g .vehicles * 100) over tonneParts)
+  unfolding annualTonnes yearParts conditionsOf
+  year ts =
+      ≈-over (yearParts g k c (conditionsOf g ts) * g .share * g .vehicles * 100) tonneParts (lit< tt) (omega arith)
       (≈-per 1000000 (lit< tt)
-      (rw (sumTo-times (g .share * g .vehicles) (day seasons) 12)
-      at (totalTo-parts (λ (m : ℕ). monthGrams g k y (getD ts m (pos 0)) (getD (g .days) m 0)) (λ (m : ℕ). day seasons m * (g .share * g .vehicles)) 200000000000 (lit< tt) 12
-      (λ (m : ℕ) (p : m < 12). rw (h m p) (month (getD ts m (pos 0)) (getD (g .days) m 0))))))
+      (rw (sumTo-times (g .share * g .vehicles) (monthParts g k c (conditionsOf g ts)) 12)
+      at (totalTo-parts (λ (m : ℕ). monthGrams g k y (periodAt g (getD ts m (pos 0))) (minutesAt g (getD ts m (pos 0))) (getD (g .days) m 0))
+      (λ (m : ℕ). monthParts g k c (conditionsOf g ts) m * (g .share * g .vehicles)) 200000000000 (lit< tt) 12
+      (λ (m : ℕ) (p : m < 12).
+      rw (listTo-at noConditions 12 (λ (m : ℕ). conditionsAt g (getD ts m (pos 0))) m p) (month (getD ts m (pos 0)) (getD (g .days) m 0))))))
 
-  peak : (t : ℤ) → peakGrams g k y t ≈ ((outParts g k c (seasonOf g t) * g .leaving * 500) over (10000000 * peakDenominator))
+  peak : (t : ℤ) → peakGrams g k y t ≈ ((outParts g k c (conditionsAt g t) * g .leaving * 500) over gramParts)
   unfolding peakGrams
   peak t =
-      ≈-over (outParts g k c (seasonOf g t) * g .leaving * 500) (10000000 * peakDenominator) (lit< tt) (omega arith)
+      ≈-over (outParts g k c (conditionsAt g t) * g .leaving * 500) gramParts (lit< tt) (omega arith)
       (≈-per 3600 (lit< tt) (≈-⊙ (out t) (≈-refl (g .leaving) 1 (lit< tt))))
 
 -- a pollutant's tonnes and rate, in exact units
-pub counted : (g : Group) (ts : List ℤ) (k : Coefficients) (p : ℕ) (seasons : List Season) → Seasons g ts seasons →
+pub counted : (g : Group) (ts : List ℤ) (k : Coefficients) (p : ℕ) →
     Counted (annualTonnes g ts k (controlOf g p)) (peakGrams g k (controlOf g p) (lowestOf ts))
-    (yearParts g k (partsOf 100 (controlOf g p)) seasons * g .share * g .vehicles * 100)
-    (outParts g k (partsOf 100 (controlOf g p)) (seasonOf g (lowestOf ts)) * g .leaving * 500)
-counted g ts k p seasons h =
+    (yearParts g k (partsOf 100 (controlOf g p)) (conditionsOf g ts) * g .share * g .vehicles * 100)
+    (outParts g k (partsOf 100 (controlOf g p)) (conditionsAt g (lowestOf ts)) * g .leaving * 500)
+counted g ts k p =
     let y = controlOf g p in
     let same = control g p .same in
-    record { annual = year g k y (partsOf 100 y) same ts seasons h; peak = peak g k y (partsOf 100 y) same (lowestOf ts) }
+    record { annual = year g k y (partsOf 100 y) same ts; peak = peak g k y (partsOf 100 y) same (lowestOf ts) }
 
 -- its sums are what the rule gives
-pub emission : (g : Group) (ts : List ℤ) (k : Coefficients) (p : ℕ) (seasons : List Season) → Seasons g ts seasons →
-    emissionParts g k p seasons (seasonOf g (lowestOf ts)) ≡ emissionOf g ts k p
+pub emission : (g : Group) (ts : List ℤ) (k : Coefficients) (p : ℕ) → emissionParts g k p (conditionsOf g ts) (conditionsAt g (lowestOf ts)) ≡ emissionOf g ts k p
 unfolding emissionParts emissionOf
-emission g ts k p seasons h = let e = counted g ts k p seasons h in rw (parts (e .annual), parts (e .peak))
+emission g ts k p = let e = counted g ts k p in rw (parts (e .annual), parts (e .peak))

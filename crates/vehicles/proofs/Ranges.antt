@@ -12,24 +12,24 @@ use lib.ListN.{getD}
 use Rattle.sums.proofs.Choices.{left, right, nth, each, allTo-at}
 use Rattle.vehicles.specs.Fields.{distancesInRange, daysInRange, monthLengths, temperaturesInRange, groupInRange, groupTests, coefficientsInRange, seven, noMinute, noKilometre, allInRange, noCoefficients}
 use Rattle.vehicles.specs.Rules.{inRange}
-use Rattle.vehicles.specs.Parts.{bothOf}
+use Rattle.vehicles.specs.Parts.{distanceSum}
 use Rattle.vehicles.specs.declared.group.Distances.{Distances}
 use Rattle.vehicles.specs.declared.group.Group.{Group}
 use Rattle.vehicles.specs.declared.group.Coefficients.{Coefficients}
 
-pub record Near (d : Distances) : Type 0 where
+pub record RangedDistances (d : Distances) : Type 0 where
   pub nearest : d .nearest .0 ≤ 20000
   pub farthest : d .farthest .0 ≤ 20000
 
-pub near : (d : Distances) → distancesInRange d ≡ true → Near d
+pub ranged-distances : (d : Distances) → distancesInRange d ≡ true → RangedDistances d
 unfolding distancesInRange
-near d h = record {
+ranged-distances d h = record {
   nearest = leb-true (d .nearest .0) 20000 (left (leb (d .nearest .0) 20000) (leb (d .farthest .0) 20000) h);
   farthest = leb-true (d .farthest .0) 20000 (right (leb (d .nearest .0) 20000) (leb (d .farthest .0) 20000) h);
 }
 
-pub twice : (d : Distances) → distancesInRange d ≡ true → bothOf d .0 ≤ 40000
-twice d h = let n = near d h in omega arith
+pub twice : (d : Distances) → distancesInRange d ≡ true → distanceSum d .0 ≤ 40000
+twice d h = let n = ranged-distances d h in omega arith
 
 pub record Ranged (g : Group) : Type 0 where
   pub vehicles : g .vehicles ≤ 10000

@@ -1,23 +1,24 @@
 -- Warm-up minutes are whole tenths and control factors whole percents: one computed test over each table. Assumes nothing.
 use Prim.Native.Nat.{ℕ, _<_, suc-le-suc}
 use mathlib.Core.Path.{refl}
-use mathlib.Core.List.{[], _∷_}
+use mathlib.Core.List.{List, [], _∷_}
 use lib.Dec.{eqb, lit<}
 use lib.IntN.{ℤ, pos}
+use lib.ListN.{getD}
 use Rattle.sums.specs.Fraction.{whole, _over_, partsOf}
-use Rattle.sums.proofs.Choices.{both}
+use Rattle.sums.proofs.Choices.{both, listTo-at}
 use Rattle.sums.proofs.Tables.{Scaled, allScaled, entry}
 use Rattle.vehicles.specs.Fields.{minus}
-use Rattle.vehicles.specs.Rules.{bandOf, columnOf, carMinutes, truckMinutes, tableMinutes, minutesOf, petrolControl, dieselControl, controlOf}
-use Rattle.vehicles.specs.Parts.{seasonOf, Mild}
+use Rattle.vehicles.specs.Rules.{warmupBand, periodAt, carMinutes, truckMinutes, tableMinutes, minutesAt, petrolControl, dieselControl, controlOf}
+use Rattle.vehicles.specs.Parts.{conditionsAt, conditionsOf, noConditions, ConditionsInRange, YearInRange}
 use Rattle.vehicles.specs.declared.group.Group.{Group}
-use Rattle.vehicles.proofs.Edges.{below-most}
+use Rattle.vehicles.proofs.Edges.{place-most}
 
-pub minutes : (g : Group) (t : ℤ) → Scaled 10 300 (minutesOf g t)
-unfolding minutesOf tableMinutes allScaled partsOf
+pub minutes : (g : Group) (t : ℤ) → Scaled 10 300 (minutesAt g t)
+unfolding minutesAt tableMinutes allScaled partsOf
 minutes g t =
     both (Scaled 10 300) (g .heated) (entry 10 300 (15 over 10 ∷ []) refl 0)
-    (both (Scaled 10 300) (eqb (g .category) 1) (entry 10 300 carMinutes refl (bandOf t)) (entry 10 300 truckMinutes refl (bandOf t)))
+    (both (Scaled 10 300) (eqb (g .category) 1) (entry 10 300 carMinutes refl (warmupBand t)) (entry 10 300 truckMinutes refl (warmupBand t)))
 
 pub control : (g : Group) (p : ℕ) → Scaled 100 100 (controlOf g p)
 unfolding controlOf allScaled partsOf
@@ -29,11 +30,15 @@ control g p =
 abbrev Three : ℕ → Type 0
 Three n = n < 3
 
-column : (g : Group) (t : ℤ) → Three (columnOf g t)
-unfolding columnOf
-column g t = both Three (g .heated) (lit< tt) (suc-le-suc (below-most (pos 51 ∷ minus 50 ∷ []) t))
+period : (g : Group) (t : ℤ) → Three (periodAt g t)
+unfolding periodAt
+period g t = both Three (g .heated) (lit< tt) (suc-le-suc (place-most (minus 50 ∷ []) t))
 
--- the season of any temperature
-pub mild : (g : Group) (t : ℤ) → Mild (seasonOf g t)
-unfolding seasonOf
-mild g t = record { column = column g t; minutes = minutes g t .most }
+-- the conditions of any temperature
+pub conditions-in-range : (g : Group) (t : ℤ) → ConditionsInRange (conditionsAt g t)
+unfolding conditionsAt
+conditions-in-range g t = record { period = period g t; minutes = minutes g t .most }
+
+pub year-in-range : (g : Group) (ts : List ℤ) → YearInRange (conditionsOf g ts)
+unfolding conditionsOf
+year-in-range g ts m p = rw (listTo-at noConditions 12 (λ (m : ℕ). conditionsAt g (getD ts m (pos 0))) m p) (conditions-in-range g _)

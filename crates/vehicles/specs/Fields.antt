@@ -17,8 +17,11 @@ abbrev pub minus : ℕ → ℤ
 minus n = negℤ (pos n)
 
 -- "Is each temperature from -600 to 600?"
+abbrev pub temperatureInRange : ℤ → Bool
+temperatureInRange t = leZ (minus 600) t && leZ t (pos 600)
+
 unfoldable pub temperaturesInRange : List ℤ → Bool
-temperaturesInRange ts = allTo 12 (λ (m : ℕ). leZ (minus 600) (getD ts m (pos 0)) && leZ (getD ts m (pos 0)) (pos 600))
+temperaturesInRange ts = allTo 12 (λ (m : ℕ). temperatureInRange (getD ts m (pos 0)))
 
 -- "14..21 four distances of 0 to 20,000 metres"
 unfoldable pub distancesInRange : Distances → Bool

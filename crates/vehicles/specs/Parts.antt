@@ -5,69 +5,70 @@ use mathlib.Core.Bool.{true}
 use mathlib.Core.List.{List}
 use lib.IntN.{ℤ, pos}
 use lib.ListN.{getD}
-use Rattle.sums.specs.Choice.{sumTo}
+use Rattle.sums.specs.Choice.{sumTo, listTo}
 use Rattle.sums.specs.Fraction.{partsOf}
 use Rattle.sums.specs.Figures.{annualOf, peakOf}
 use Rattle.sums.specs.declared.answer.Emission.{Emission}
 use Rattle.vehicles.specs.Fields.{noMinute, noKilometre, groupInRange, coefficientsInRange}
-use Rattle.vehicles.specs.Rules.{minutesOf, columnOf, controlOf, codeOf}
+use Rattle.vehicles.specs.Rules.{minutesAt, periodAt, controlOf, codeOf}
 use Rattle.vehicles.specs.declared.units.Metres.{Metres}
 use Rattle.vehicles.specs.declared.group.Distances.{Distances}
 use Rattle.vehicles.specs.declared.group.Group.{Group}
 use Rattle.vehicles.specs.declared.group.Coefficients.{Coefficients}
-use Rattle.vehicles.specs.declared.warmup.Season.{Season}
+use Rattle.vehicles.specs.declared.warmup.Conditions.{Conditions}
 
--- what a temperature decides: the column of coefficients, and warm-up in tenths of a minute
-unfoldable pub seasonOf : Group → ℤ → Season
-seasonOf g t = record { column = columnOf g t; minutes = record { 0 = partsOf 10 (minutesOf g t) } }
+-- what a temperature decides: the period whose coefficients count, and warm-up in tenths of a minute
+unfoldable pub conditionsAt : Group → ℤ → Conditions
+conditionsAt g t = record { period = periodAt g t; minutes = record { 0 = partsOf 10 (minutesAt g t) } }
 
-abbrev pub noSeason : Season
-noSeason = record { column = 0; minutes = record { 0 = 0 } }
+unfoldable pub conditionsOf : Group → List ℤ → List Conditions
+conditionsOf g ts = listTo 12 (λ (m : ℕ). conditionsAt g (getD ts m (pos 0)))
 
--- the seasons of the twelve months
-abbrev pub Seasons : Group → List ℤ → List Season → Type 0
-Seasons g ts seasons = (m : ℕ) → m < 12 → getD seasons m noSeason ≡ seasonOf g (getD ts m (pos 0))
+abbrev pub noConditions : Conditions
+noConditions = record { period = 0; minutes = record { 0 = 0 } }
 
-abbrev pub bothOf : Distances → Metres
-bothOf d = record { 0 = d .nearest .0 + d .farthest .0 }
+abbrev pub distanceSum : Distances → Metres
+distanceSum d = record { 0 = d .nearest .0 + d .farthest .0 }
 
 -- grams in 2,000,000,000ths, the control factor in percent
-unfoldable pub drivenParts : Group → Coefficients → ℕ → ℕ → Distances → ℕ
-drivenParts g k control column d =
-    getD (k .run) column noKilometre .0 * bothOf d .0 * g .neutraliser .running
+unfoldable pub runAndIdleParts : Group → Coefficients → ℕ → ℕ → Distances → ℕ
+runAndIdleParts g k control period d =
+    getD (k .run) period noKilometre .0 * distanceSum d .0 * g .neutraliser .running
     + 2 * (k .idle .0 * g .idle .0) * control * g .neutraliser .running
 
-unfoldable pub outParts : Group → Coefficients → ℕ → Season → ℕ
-outParts g k control s =
-    2 * (getD (k .warmup) (s .column) noMinute .0 * s .minutes .0) * control * g .neutraliser .warming
-    + drivenParts g k control (s .column) (g .outward)
+unfoldable pub outParts : Group → Coefficients → ℕ → Conditions → ℕ
+outParts g k control w =
+    2 * (getD (k .warmup) (w .period) noMinute .0 * w .minutes .0) * control * g .neutraliser .warming
+    + runAndIdleParts g k control (w .period) (g .outward)
 
-unfoldable pub dayParts : Group → Coefficients → ℕ → Season → ℕ
-dayParts g k control s = outParts g k control s + drivenParts g k control (s .column) (g .inward)
+unfoldable pub dayParts : Group → Coefficients → ℕ → Conditions → ℕ
+dayParts g k control w = outParts g k control w + runAndIdleParts g k control (w .period) (g .inward)
 
--- over the days worked in the year
-unfoldable pub yearParts : Group → Coefficients → ℕ → List Season → ℕ
-yearParts g k control seasons = sumTo 12 (λ (m : ℕ). dayParts g k control (getD seasons m noSeason) * getD (g .days) m 0)
+-- over the days worked in a month, and in the year
+abbrev pub monthParts : Group → Coefficients → ℕ → List Conditions → ℕ → ℕ
+monthParts g k control ws m = dayParts g k control (getD ws m noConditions) * getD (g .days) m 0
+
+unfoldable pub yearParts : Group → Coefficients → ℕ → List Conditions → ℕ
+yearParts g k control ws = sumTo 12 (monthParts g k control ws)
+
+-- one pollutant's emission, in exact units
+unfoldable pub emissionParts : Group → Coefficients → ℕ → List Conditions → Conditions → Emission
+emissionParts g k p ws coldest = record {
+  code = codeOf (g .fuel) p;
+  annual = annualOf (yearParts g k (partsOf 100 (controlOf g p)) ws * g .share * g .vehicles * 100);
+  peak = peakOf (outParts g k (partsOf 100 (controlOf g p)) coldest * g .leaving * 500);
+}
 
 -- what a trip is worked out from is in range
-pub record Works (g : Group) (k : Coefficients) (c n : ℕ) : Type 0 where
+pub record TripInRange (g : Group) (k : Coefficients) (c n : ℕ) : Type 0 where
   pub group : groupInRange g ≡ true
   pub coefficients : coefficientsInRange k ≡ true
   pub control : c ≤ 100
-  pub column : n < 3
+  pub period : n < 3
 
--- a season of some temperature: its column is one of three, its warm-up at most half an hour
-pub record Mild (s : Season) : Type 0 where
-  pub column : s .column < 3
-  pub minutes : s .minutes .0 ≤ 300
+pub record ConditionsInRange (w : Conditions) : Type 0 where
+  pub period : w .period < 3
+  pub minutes : w .minutes .0 ≤ 300
 
-abbrev pub Seasonal : List Season → Type 0
-Seasonal seasons = (m : ℕ) → m < 12 → Mild (getD seasons m noSeason)
-
--- one pollutant's emission in parts
-unfoldable pub emissionParts : Group → Coefficients → ℕ → List Season → Season → Emission
-emissionParts g k p seasons coldest = record {
-  code = codeOf (g .fuel) p;
-  annual = annualOf (yearParts g k (partsOf 100 (controlOf g p)) seasons * g .share * g .vehicles * 100);
-  peak = peakOf (outParts g k (partsOf 100 (controlOf g p)) coldest * g .leaving * 500);
-}
+abbrev pub YearInRange : List Conditions → Type 0
+YearInRange ws = (m : ℕ) → m < 12 → ConditionsInRange (getD ws m noConditions)

@@ -21,13 +21,17 @@ unfoldable pub below : List ℤ → ℤ → ℕ
 below [] t = 0
 below (e ∷ es) t = if_then_else (ltZ t e) (suc (below es t)) 0
 
--- "Period: above 5.0 warm, below -5.0 cold, else transitional": 0 warm, 1 transitional, 2 cold; temperatures are in tenths
+-- 0 above 5.0, and from there on one more for each edge; temperatures are in tenths
+unfoldable pub place : List ℤ → ℤ → ℕ
+place es t = if_then_else (ltZ (pos 50) t) 0 (suc (below es t))
+
+-- "Period: above 5.0 warm, below -5.0 cold, else transitional": 0 warm, 1 transitional, 2 cold
 abbrev pub periodOf : ℤ → ℕ
-periodOf = below (pos 51 ∷ minus 50 ∷ [])
+periodOf = place (minus 50 ∷ [])
 
 -- "Warm-up minutes (000 Table 9; edges by 003): above 5; 5 to -5; below -5 to -10; below -10 to -15; below -15 to -20; below -20 to -25; below -25"
-abbrev pub bandOf : ℤ → ℕ
-bandOf = below (pos 51 ∷ minus 50 ∷ minus 100 ∷ minus 150 ∷ minus 200 ∷ minus 250 ∷ [])
+abbrev pub warmupBand : ℤ → ℕ
+warmupBand = place (minus 50 ∷ minus 100 ∷ minus 150 ∷ minus 200 ∷ minus 250 ∷ [])
 
 -- "Car 3, 4, 10, 15, 15, 20, 20. Truck and bus 4, 6, 12, 20, 25, 30, 30"
 abbrev pub carMinutes : List Frac
@@ -37,14 +41,14 @@ abbrev pub truckMinutes : List Frac
 truckMinutes = whole 4 ∷ whole 6 ∷ whole 12 ∷ whole 20 ∷ whole 25 ∷ whole 30 ∷ whole 30 ∷ []
 
 unfoldable pub tableMinutes : ℕ → ℤ → Frac
-tableMinutes category t = if_then_else (eqb category 1) (getD carMinutes (bandOf t) (whole 0)) (getD truckMinutes (bandOf t) (whole 0))
+tableMinutes category t = if_then_else (eqb category 1) (getD carMinutes (warmupBand t) (whole 0)) (getD truckMinutes (warmupBand t) (whole 0))
 
 -- "A heated stand has 1.5 minutes and warm-period coefficients all year (003)"
-unfoldable pub minutesOf : Group → ℤ → Frac
-minutesOf g t = if_then_else (g .heated) (15 over 10) (tableMinutes (g .category) t)
+unfoldable pub minutesAt : Group → ℤ → Frac
+minutesAt g t = if_then_else (g .heated) (15 over 10) (tableMinutes (g .category) t)
 
-unfoldable pub columnOf : Group → ℤ → ℕ
-columnOf g t = if_then_else (g .heated) 0 (periodOf t)
+unfoldable pub periodAt : Group → ℤ → ℕ
+periodAt g t = if_then_else (g .heated) 0 (periodOf t)
 
 -- "Control factor: petrol CO 0.80, hydrocarbons 0.90, NO2 1, SO2 0.95, lead 0.95; diesel CO 0.90, hydrocarbons 0.90, NO2 1, soot 0.80, SO2 0.95.
 -- It is 1 without control, and 1 for the two that 11 holds at zero": in the pollutants' order, CO, hydrocarbons, NO2, soot, SO2, lead, from place 0
@@ -65,32 +69,34 @@ abbrev pub halfSum : Distances → Frac
 halfSum d = (d .nearest .0 + d .farthest .0) over 2000
 
 -- "run × half the sum of the two ... distances × neutraliser + idle × idle time × control × neutraliser": coefficients are in ten-thousandths of
--- a gram, times in tenths of a minute, the neutraliser in percent
-unfoldable pub driveGrams : Group → Coefficients → Frac → ℕ → Distances → Frac
-driveGrams g k control column d =
-    (getD (k .run) column noKilometre .0 over 10000) ⊙ halfSum d ⊙ (g .neutraliser .running over 100)
+-- a gram, times in tenths of a minute, the neutraliser in percent; the run's coefficient is the period's
+unfoldable pub runAndIdle : Group → Coefficients → Frac → ℕ → Distances → Frac
+runAndIdle g k control period d =
+    (getD (k .run) period noKilometre .0 over 10000) ⊙ halfSum d ⊙ (g .neutraliser .running over 100)
     ⊞ (k .idle .0 over 10000) ⊙ (g .idle .0 over 10) ⊙ control ⊙ (g .neutraliser .running over 100)
 
 -- "Out = warm-up × minutes × control × warm-up neutraliser + ..." those two terms with the out distances
-unfoldable pub outGrams : Group → Coefficients → Frac → ℤ → Frac
-outGrams g k control t =
-    (getD (k .warmup) (columnOf g t) noMinute .0 over 10000) ⊙ minutesOf g t ⊙ control ⊙ (g .neutraliser .warming over 100)
-    ⊞ driveGrams g k control (columnOf g t) (g .outward)
+unfoldable pub outGrams : Group → Coefficients → Frac → ℕ → Frac → Frac
+outGrams g k control period minutes =
+    (getD (k .warmup) period noMinute .0 over 10000) ⊙ minutes ⊙ control ⊙ (g .neutraliser .warming over 100)
+    ⊞ runAndIdle g k control period (g .outward)
 
 -- "In = the last two terms with the in distances"
-unfoldable pub inGrams : Group → Coefficients → Frac → ℤ → Frac
-inGrams g k control t = driveGrams g k control (columnOf g t) (g .inward)
+unfoldable pub inGrams : Group → Coefficients → Frac → ℕ → Frac
+inGrams g k control period = runAndIdle g k control period (g .inward)
 
 -- "Annual grams: sum over months of (out + in) × a × N × days", and the tonnes of so many grams
-unfoldable pub monthGrams : Group → Coefficients → Frac → ℤ → ℕ → Frac
-monthGrams g k control t days = (outGrams g k control t ⊞ inGrams g k control t) ⊙ (g .share over 100) ⊙ whole (g .vehicles) ⊙ whole days
+unfoldable pub monthGrams : Group → Coefficients → Frac → ℕ → Frac → ℕ → Frac
+monthGrams g k control period minutes days =
+    (outGrams g k control period minutes ⊞ inGrams g k control period) ⊙ (g .share over 100) ⊙ whole (g .vehicles) ⊙ whole days
 
 unfoldable pub annualTonnes : Group → List ℤ → Coefficients → Frac → Frac
-annualTonnes g ts k control = totalTo 12 (λ (m : ℕ). monthGrams g k control (getD ts m (pos 0)) (getD (g .days) m 0)) per 1000000
+annualTonnes g ts k control =
+    totalTo 12 (λ (m : ℕ). monthGrams g k control (periodAt g (getD ts m (pos 0))) (minutesAt g (getD ts m (pos 0))) (getD (g .days) m 0)) per 1000000
 
--- "Peak: out × N' / 3600, in the month of lowest temperature, whatever days are worked in it"
+-- "Peak: out × N' / 3600, in the month of lowest temperature, whatever days are worked in it": at a temperature
 unfoldable pub peakGrams : Group → Coefficients → Frac → ℤ → Frac
-peakGrams g k control t = outGrams g k control t ⊙ whole (g .leaving) per 3600
+peakGrams g k control t = outGrams g k control (periodAt g t) (minutesAt g t) ⊙ whole (g .leaving) per 3600
 
 unfoldable pub lowerOf : ℤ → ℤ → ℤ
 lowerOf x y = if_then_else (ltZ x y) x y
@@ -125,8 +131,8 @@ unfoldable pub inRange : Group → List ℤ → List Coefficients → Bool
 inRange g ts ks = allOf (groupInRange g ∷ temperaturesInRange ts ∷ allInRange ks ∷ [])
 
 -- "then 11 for soot or lead that must be zero": "Is soot zero throughout for petrol, lead for diesel?"
-unfoldable pub barred : Group → List Coefficients → Bool
-barred g ks =
+unfoldable pub notZero : Group → List Coefficients → Bool
+notZero g ks =
     (eqb (g .fuel) 1 && not (allZero (getD ks 3 noCoefficients))) || (eqb (g .fuel) 2 && not (allZero (getD ks 5 noCoefficients)))
 
 -- "with zero figures and slot 0"
@@ -136,5 +142,5 @@ refused n = record { verdict = refusedBy n; emissions = replicate 6 noEmission }
 unfoldable pub groupAnswer : Group → List ℤ → List Coefficients → GroupAnswer
 groupAnswer g ts ks =
     if_then_else (inRange g ts ks)
-    (if_then_else (barred g ks) (refused 11) (record { verdict = accepted; emissions = emissionsOf g ts ks }))
+    (if_then_else (notZero g ks) (refused 11) (record { verdict = accepted; emissions = emissionsOf g ts ks }))
     (refused 9)

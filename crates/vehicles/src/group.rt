@@ -12,13 +12,14 @@ pub struct Distances {
     pub farthest: Metres,
 }
 
-// What a neutraliser leaves, in percent: of run and idle, and of warm-up.
+// The neutraliser's factors in percent: for run and idle, and for warm-up.
 pub struct Neutraliser {
     pub running: u8,
     pub warming: u8,
 }
 
-// `leaving` is the most vehicles that leave in one hour, `share` the percent that leave in a day.
+// Category: 1 car, 2 truck, 3 bus. Fuel: 1 petrol, 2 diesel. `controlled`: emission control is done. `heated`: a heated stand. `leaving`: the most
+// vehicles that leave in one hour. `share`: the percent that leave in a day. `days`: worked in each month.
 pub struct Group {
     pub category: u8,
     pub fuel: u8,

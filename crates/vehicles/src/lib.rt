@@ -12,7 +12,7 @@ pub use group::Distances;
 pub use group::Group;
 pub use group::Neutraliser;
 pub use rule::GroupAnswer;
-pub use rule::group_emission;
+pub use rule::group_emissions;
 pub use units::Metres;
 pub use units::Minutes;
 pub use units::PerKilometre;

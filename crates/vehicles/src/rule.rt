@@ -4,8 +4,8 @@ ghost use mathlib.Core.Bool.{true};
 ghost use Prim.Native.Nat.{_*_, _<_, _≤_};
 ghost use Rattle.sums.specs.Figures.{annualOf, peakOf};
 ghost use Rattle.vehicles.specs.Fields.{groupInRange, coefficientsInRange, allInRange};
-ghost use Rattle.vehicles.specs.Rules.{codeOf, emissionsOf, inRange, barred, refused, groupAnswer};
-ghost use Rattle.vehicles.specs.Parts.{dayParts, yearParts, emissionParts, Works, Mild, Seasonal};
+ghost use Rattle.vehicles.specs.Rules.{codeOf, emissionsOf, inRange, notZero, refused, groupAnswer};
+ghost use Rattle.vehicles.specs.Parts.{dayParts, yearParts, emissionParts, TripInRange, ConditionsInRange, YearInRange};
 use super::control;
 use super::group;
 use super::group::Coefficients;
@@ -14,7 +14,7 @@ use super::temperature;
 use super::trip;
 use super::units;
 use super::warmup;
-use super::warmup::Season;
+use super::warmup::Conditions;
 use sums::AnnualSum;
 use sums::Emission;
 use sums::PeakSum;
@@ -26,29 +26,30 @@ pub struct GroupAnswer {
 }
 
 // A day's trips of one vehicle, in 2,000,000,000ths of a gram.
-fn day_of(g: Group, k: Coefficients, control: u64, s: Season) -> u64
-    requires { ⌜ Works g k control (s .column) × (s .minutes .0 ≤ 300) ⌝ }
-    ensures { λ r. ⌜ (r ≡ dayParts g k control s) × (r ≤ 24000000000000) ⌝ }
+fn day_of(g: Group, k: Coefficients, control: u64, w: Conditions) -> u64
+    requires { ⌜ TripInRange g k control (w .period) × (w .minutes .0 ≤ 300) ⌝ }
+    ensures { λ r. ⌜ (r ≡ dayParts g k control w) × (r ≤ 24000000000000) ⌝ }
 {
     let d = g.inward;
-    trip::out_of(g, k, control, s) + trip::drive(g, k, control, s.column, d)
+    trip::out_of(g, k, control, w) + trip::run_and_idle(g, k, control, w.period, d)
 }
 
 // The same over the days worked in the year.
-fn year_of(g: Group, k: Coefficients, control: u64, seasons: [Season; 12]) -> u64
-    requires { ⌜ (groupInRange g ≡ true) × (coefficientsInRange k ≡ true) × (control ≤ 100) × Seasonal seasons ⌝ }
-    ensures { λ r. ⌜ (r ≡ yearParts g k control seasons) × (r ≤ 8928000000000000) ⌝ }
+fn year_of(g: Group, k: Coefficients, control: u64, months: [Conditions; 12]) -> u64
+    requires { ⌜ (groupInRange g ≡ true) × (coefficientsInRange k ≡ true) × (control ≤ 100) × YearInRange months ⌝ }
+    ensures { λ r. ⌜ (r ≡ yearParts g k control months) × (r ≤ 8928000000000000) ⌝ }
 {
     let days = g.days;
     let mut total = 0;
     let mut i = 0;
     while i < 12 {
-        total += day_of(g, k, control, seasons[i]) * units::wide8(days[i]);
+        total += day_of(g, k, control, months[i]) * units::wide8(days[i]);
         i += 1;
     }
     total
 }
 
+// 2,000,000,000ths of a gram times a percentage are 200,000,000,000,000,000ths of a tonne, 100 exact units each.
 fn annual_of(g: Group, year: u64) -> AnnualSum
     requires { ⌜ (groupInRange g ≡ true) × (year ≤ 8928000000000000) ⌝ }
     ensures { λ r. ⌜ r ≡ annualOf (year * g .share * g .vehicles * 100) ⌝ }
@@ -58,6 +59,7 @@ fn annual_of(g: Group, year: u64) -> AnnualSum
         .times(100)
 }
 
+// 2,000,000,000ths of a gram over 3,600 seconds are 7,200,000,000,000ths of a gram per second, 500 exact units each.
 fn peak_of(g: Group, out: u64) -> PeakSum
     requires { ⌜ (groupInRange g ≡ true) × (out ≤ 15000000000000) ⌝ }
     ensures { λ r. ⌜ r ≡ peakOf (out * g .leaving * 500) ⌝ }
@@ -80,21 +82,21 @@ fn code_of(fuel: u8, place: usize) -> u16
     }
 }
 
-// The emission of the pollutant at a place, from the months' seasons and the coldest month's.
+// The emission of the pollutant at a place, from the months' conditions and the coldest month's.
 fn emission_of(
     g: Group,
     k: Coefficients,
     place: usize,
-    seasons: [Season; 12],
-    coldest: Season,
+    months: [Conditions; 12],
+    coldest: Conditions,
 ) -> Emission
-    requires { ⌜ (groupInRange g ≡ true) × (coefficientsInRange k ≡ true) × (place < 6) × Seasonal seasons × Mild coldest ⌝ }
-    ensures { λ r. ⌜ r ≡ emissionParts g k place seasons coldest ⌝ }
+    requires { ⌜ (groupInRange g ≡ true) × (coefficientsInRange k ≡ true) × (place < 6) × YearInRange months × ConditionsInRange coldest ⌝ }
+    ensures { λ r. ⌜ r ≡ emissionParts g k place months coldest ⌝ }
 {
     let control = control::control_of(g, place);
     Emission {
         code: code_of(g.fuel, place),
-        annual: annual_of(g, year_of(g, k, control, seasons)),
+        annual: annual_of(g, year_of(g, k, control, months)),
         peak: peak_of(g, trip::out_of(g, k, control, coldest)),
     }
 }
@@ -103,12 +105,12 @@ fn emissions_of(g: Group, ts: [i16; 12], ks: [Coefficients; 6]) -> [Emission; 6]
     requires { ⌜ (groupInRange g ≡ true) × (allInRange ks ≡ true) ⌝ }
     ensures { λ r. ⌜ r ≡ emissionsOf g ts ks ⌝ }
 {
-    let seasons = warmup::seasons_of(g, ts);
-    let coldest = warmup::season_of(g, temperature::lowest(ts));
+    let months = warmup::conditions_of(g, ts);
+    let coldest = warmup::conditions_at(g, temperature::lowest(ts));
     let mut emissions = [Emission::none(); 6];
     let mut p = 0;
     while p < 6 {
-        emissions[p] = emission_of(g, ks[p], p, seasons, coldest);
+        emissions[p] = emission_of(g, ks[p], p, months, coldest);
         p += 1;
     }
     emissions
@@ -120,8 +122,8 @@ fn in_range(g: Group, ts: [i16; 12], ks: [Coefficients; 6]) -> bool
     group::group_in_range(g) & temperature::temperatures_in_range(ts) & group::all_in_range(ks)
 }
 
-fn is_barred(g: Group, ks: [Coefficients; 6]) -> bool
-    ensures { λ r. ⌜ r ≡ barred g ks ⌝ }
+fn is_not_zero(g: Group, ks: [Coefficients; 6]) -> bool
+    ensures { λ r. ⌜ r ≡ notZero g ks ⌝ }
 {
     ((g.fuel == 1) & !group::all_zero(ks[3])) | ((g.fuel == 2) & !group::all_zero(ks[5]))
 }
@@ -135,11 +137,11 @@ fn refuse(number: u8) -> GroupAnswer
     }
 }
 
-pub fn group_emission(g: Group, ts: [i16; 12], ks: [Coefficients; 6]) -> GroupAnswer
+pub fn group_emissions(g: Group, ts: [i16; 12], ks: [Coefficients; 6]) -> GroupAnswer
     ensures { λ r. ⌜ r ≡ groupAnswer g ts ks ⌝ }
 {
     if in_range(g, ts, ks) {
-        if is_barred(g, ks) {
+        if is_not_zero(g, ks) {
             refuse(11)
         } else {
             GroupAnswer {

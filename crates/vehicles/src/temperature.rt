@@ -1,14 +1,11 @@
 // Monthly mean temperatures, in tenths of a degree: their range, the lowest, the period and the column of the warm-up table.
 ghost use mathlib.Core.Path.{_≡_};
-ghost use mathlib.Core.Bool.{_&&_};
 ghost use Prim.Native.Nat.{_<_};
-ghost use lib.IntN.{pos};
-ghost use lib.Signed.{leZ};
-ghost use Rattle.vehicles.specs.Fields.{minus, temperaturesInRange};
-ghost use Rattle.vehicles.specs.Rules.{lowerOf, lowestOf, periodOf, bandOf};
+ghost use Rattle.vehicles.specs.Fields.{temperatureInRange, temperaturesInRange};
+ghost use Rattle.vehicles.specs.Rules.{lowerOf, lowestOf, periodOf, warmupBand};
 
 fn temperature_in_range(t: i16) -> bool
-    ensures { λ r. ⌜ r ≡ (leZ (minus 600) t && leZ t (pos 600)) ⌝ }
+    ensures { λ r. ⌜ r ≡ temperatureInRange t ⌝ }
 {
     (-600 <= t) & (t <= 600)
 }
@@ -55,8 +52,8 @@ pub(crate) fn period(t: i16) -> usize
 }
 
 // The column of the warm-up table, 0 the warmest.
-pub(crate) fn band(t: i16) -> usize
-    ensures { λ r. ⌜ (r ≡ bandOf t) × (r < 7) ⌝ }
+pub(crate) fn warmup_band(t: i16) -> usize
+    ensures { λ r. ⌜ (r ≡ warmupBand t) × (r < 7) ⌝ }
 {
     match t {
         51.. => 0,

@@ -3,17 +3,17 @@ ghost use mathlib.Core.Path.{_≡_};
 ghost use mathlib.Core.Bool.{true};
 ghost use Prim.Native.Nat.{_+_, _*_, _≤_};
 ghost use Rattle.vehicles.specs.Fields.{distancesInRange};
-ghost use Rattle.vehicles.specs.Parts.{bothOf, drivenParts, outParts, Works};
+ghost use Rattle.vehicles.specs.Parts.{distanceSum, runAndIdleParts, outParts, TripInRange};
 use super::group::Coefficients;
 use super::group::Distances;
 use super::group::Group;
 use super::units;
 use super::units::Metres;
-use super::warmup::Season;
+use super::warmup::Conditions;
 
-fn both(d: Distances) -> Metres
+fn distance_sum(d: Distances) -> Metres
     requires { ⌜ distancesInRange d ≡ true ⌝ }
-    ensures { λ r. ⌜ r ≡ bothOf d ⌝ }
+    ensures { λ r. ⌜ r ≡ distanceSum d ⌝ }
 {
     Metres(d.nearest.0 + d.farthest.0)
 }
@@ -27,46 +27,53 @@ fn percent(mass: u64, p: u64) -> u64
 }
 
 // The warm-up's mass, and the run's with the idling's, after their percentages.
-fn warmed(warm: u64, control: u64, neutraliser: u64) -> u64
-    requires { ⌜ (warm ≤ 300000000) × (control ≤ 100) × (neutraliser ≤ 100) ⌝ }
-    ensures { λ r. ⌜ (r ≡ 2 * warm * control * neutraliser) × (r ≤ 6000000000000) ⌝ }
+fn warmup_mass(warmup: u64, control: u64, neutraliser: u64) -> u64
+    requires { ⌜ (warmup ≤ 300000000) × (control ≤ 100) × (neutraliser ≤ 100) ⌝ }
+    ensures { λ r. ⌜ (r ≡ 2 * warmup * control * neutraliser) × (r ≤ 6000000000000) ⌝ }
 {
-    percent(percent(2 * warm, control), neutraliser)
+    percent(percent(2 * warmup, control), neutraliser)
 }
 
-fn driven(run: u64, idle: u64, control: u64, neutraliser: u64) -> u64
+fn run_and_idle_mass(run: u64, idle: u64, control: u64, neutraliser: u64) -> u64
     requires { ⌜ (run ≤ 40000000000) × (idle ≤ 250000000) × (control ≤ 100) × (neutraliser ≤ 100) ⌝ }
     ensures { λ r. ⌜ (r ≡ run * neutraliser + 2 * idle * control * neutraliser) × (r ≤ 9000000000000) ⌝ }
 {
     percent(run, neutraliser) + percent(percent(2 * idle, control), neutraliser)
 }
 
-// A run over the two distances, and the idling.
-pub(crate) fn drive(g: Group, k: Coefficients, control: u64, column: usize, d: Distances) -> u64
-    requires { ⌜ Works g k control column × (distancesInRange d ≡ true) ⌝ }
-    ensures { λ r. ⌜ (r ≡ drivenParts g k control column d) × (r ≤ 9000000000000) ⌝ }
+// The run over two distances, and the idling.
+pub(crate) fn run_and_idle(
+    g: Group,
+    k: Coefficients,
+    control: u64,
+    period: usize,
+    d: Distances,
+) -> u64
+    requires { ⌜ TripInRange g k control period × (distancesInRange d ≡ true) ⌝ }
+    ensures { λ r. ⌜ (r ≡ runAndIdleParts g k control period d) × (r ≤ 9000000000000) ⌝ }
 {
     let runs = k.run;
-    let run = runs[column];
+    let run = runs[period];
     let idle = k.idle;
     let t = g.idle;
-    driven(
-        run.over(both(d)),
+    run_and_idle_mass(
+        run.over(distance_sum(d)),
         idle.over(t),
         control,
         units::wide8(g.neutraliser.running),
     )
 }
 
-pub(crate) fn out_of(g: Group, k: Coefficients, control: u64, s: Season) -> u64
-    requires { ⌜ Works g k control (s .column) × (s .minutes .0 ≤ 300) ⌝ }
-    ensures { λ r. ⌜ (r ≡ outParts g k control s) × (r ≤ 15000000000000) ⌝ }
+// The trip out.
+pub(crate) fn out_of(g: Group, k: Coefficients, control: u64, w: Conditions) -> u64
+    requires { ⌜ TripInRange g k control (w .period) × (w .minutes .0 ≤ 300) ⌝ }
+    ensures { λ r. ⌜ (r ≡ outParts g k control w) × (r ≤ 15000000000000) ⌝ }
 {
-    let column = s.column;
+    let period = w.period;
     let warmups = k.warmup;
-    let warmup = warmups[column];
-    let t = s.minutes;
+    let warmup = warmups[period];
+    let t = w.minutes;
     let d = g.outward;
-    warmed(warmup.over(t), control, units::wide8(g.neutraliser.warming))
-        + drive(g, k, control, column, d)
+    warmup_mass(warmup.over(t), control, units::wide8(g.neutraliser.warming))
+        + run_and_idle(g, k, control, period, d)
 }

@@ -2,15 +2,15 @@
 ghost use mathlib.Core.Path.{_≡_};
 ghost use Prim.Native.Nat.{_<_};
 ghost use Rattle.sums.specs.Fraction.{partsOf};
-ghost use Rattle.vehicles.specs.Rules.{tableMinutes, minutesOf, columnOf};
-ghost use Rattle.vehicles.specs.Parts.{seasonOf, Seasons};
+ghost use Rattle.vehicles.specs.Rules.{tableMinutes, minutesAt, periodAt};
+ghost use Rattle.vehicles.specs.Parts.{conditionsAt, conditionsOf};
 use super::group::Group;
 use super::temperature;
 use super::units::Minutes;
 
 // What a month's temperature decides: the period whose coefficients count, and the warm-up minutes.
-pub struct Season {
-    pub column: usize,
+pub struct Conditions {
+    pub period: usize,
     pub minutes: Minutes,
 }
 
@@ -22,7 +22,7 @@ const TRUCK: [u32; 7] = [40, 60, 120, 200, 250, 300, 300];
 fn table_minutes(category: u8, t: i16) -> u32
     ensures { λ r. ⌜ r ≡ partsOf 10 (tableMinutes category t) ⌝ }
 {
-    let band = temperature::band(t);
+    let band = temperature::warmup_band(t);
     if category == 1 {
         CAR[band]
     } else {
@@ -30,8 +30,8 @@ fn table_minutes(category: u8, t: i16) -> u32
     }
 }
 
-fn minutes_of(g: Group, t: i16) -> u32
-    ensures { λ r. ⌜ r ≡ partsOf 10 (minutesOf g t) ⌝ }
+fn minutes_at(g: Group, t: i16) -> u32
+    ensures { λ r. ⌜ r ≡ partsOf 10 (minutesAt g t) ⌝ }
 {
     if g.heated {
         15
@@ -40,33 +40,34 @@ fn minutes_of(g: Group, t: i16) -> u32
     }
 }
 
-fn column_of(g: Group, t: i16) -> usize
-    ensures { λ r. ⌜ r ≡ columnOf g t ⌝ }
+fn period_at(g: Group, t: i16) -> usize
+    ensures { λ r. ⌜ r ≡ periodAt g t ⌝ }
 {
     if g.heated { 0 } else { temperature::period(t) }
 }
 
-pub(crate) fn season_of(g: Group, t: i16) -> Season
-    ensures { λ r. ⌜ r ≡ seasonOf g t ⌝ }
+pub(crate) fn conditions_at(g: Group, t: i16) -> Conditions
+    ensures { λ r. ⌜ r ≡ conditionsAt g t ⌝ }
 {
-    Season {
-        column: column_of(g, t),
-        minutes: Minutes(minutes_of(g, t)),
+    Conditions {
+        period: period_at(g, t),
+        minutes: Minutes(minutes_at(g, t)),
     }
 }
 
-pub(crate) fn seasons_of(g: Group, ts: [i16; 12]) -> [Season; 12]
-    ensures { λ r. ⌜ Seasons g ts r ⌝ }
+// Month by month.
+pub(crate) fn conditions_of(g: Group, ts: [i16; 12]) -> [Conditions; 12]
+    ensures { λ r. ⌜ r ≡ conditionsOf g ts ⌝ }
 {
-    let none = Season {
-        column: 0,
+    let none = Conditions {
+        period: 0,
         minutes: Minutes(0),
     };
-    let mut seasons = [none; 12];
+    let mut months = [none; 12];
     let mut i = 0;
     while i < 12 {
-        seasons[i] = season_of(g, ts[i]);
+        months[i] = conditions_at(g, ts[i]);
         i += 1;
     }
-    seasons
+    months
 }

@@ -13,7 +13,7 @@ unfolding aspirationAnswer
 returns c =
     let a = c .before .before .before .before .args .a in
     let t = sym (c .before .before .before .aspiration-in-range .ensures) ∙ c .before .before .if1 .taken in
-    yes _ _ _ _ t (rw (c .given-aspiration .ensures, c .before .aspiration-parts .ensures) (summed (a .dust) (aspiration-counted a)))
+    yes _ _ _ _ t (rw (c .aspiration-answer .ensures, c .before .aspiration-parts .ensures) (summed (a .dust) (aspiration-counted a)))
 
 pub aspiration-emission-spec : {M : Type 1} → statement M
 unfolding aspirationAnswer

@@ -13,7 +13,7 @@ unfolding handlingAnswer
 returns c =
     let h = c .before .before .before .before .before .args .h in
     let t = sym (c .before .before .before .before .handling-in-range .ensures) ∙ c .before .before .before .if1 .taken in
-    yes _ _ _ _ t (rw (c .given-bulk .ensures, c .before .handling-parts .ensures) (summed (h .bulk .dust) (handling-counted h)))
+    yes _ _ _ _ t (rw (c .bulk-answer .ensures, c .before .handling-parts .ensures) (summed (h .bulk .dust) (handling-counted h)))
 
 pub handling-emission-spec : {M : Type 1} → statement M
 unfolding handlingAnswer

@@ -3,7 +3,7 @@ use borrow.Author.Needs.{needs}
 use native.Mathlib.Omega.{arith}
 use Rattle.sums.specs.Fraction.{_over_, partsOf}
 use Rattle.sums.specs.Table.{bounds}
-use Rattle.sums.proofs.Tables.{band-below, looked-up}
+use Rattle.sums.proofs.Tables.{line-below, looked-up}
 use Rattle.stores.specs.Rules.{k3Table}
 use Rattle.stores.proofs.TableTests.{k3-scaled, met}
 use Rattle.stores.proofs.tables.k3.Statement.{statement}
@@ -14,6 +14,6 @@ unfolding partsOf
 k3-spec =
     tie.close
     (tie.spec (search needs)
-    (λ c. omega (arith, band-below (bounds k3Table) (c .before .args .wind)))
-    (λ c. omega (arith, band-below (bounds k3Table) (c .before .args .wind)))
+    (λ c. omega (arith, line-below (bounds k3Table) (c .before .args .wind)))
+    (λ c. omega (arith, line-below (bounds k3Table) (c .before .args .wind)))
     (λ c. let x = c .before .args .wind in met (rw (c .wind-band .ensures) (looked-up 10 k3Table (23 over 10) x)) (k3-scaled x)))

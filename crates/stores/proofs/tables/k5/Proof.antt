@@ -3,7 +3,7 @@ use borrow.Author.Needs.{needs}
 use native.Mathlib.Omega.{arith}
 use Rattle.sums.specs.Fraction.{_over_, partsOf}
 use Rattle.sums.specs.Table.{bounds}
-use Rattle.sums.proofs.Tables.{band-below, looked-up}
+use Rattle.sums.proofs.Tables.{line-below, looked-up}
 use Rattle.stores.specs.Rules.{k5Table}
 use Rattle.stores.proofs.TableTests.{k5-scaled, met}
 use Rattle.stores.proofs.tables.k5.Statement.{statement}
@@ -14,6 +14,6 @@ unfolding partsOf
 k5-spec =
     tie.close
     (tie.spec (search needs)
-    (λ c. omega (arith, band-below (bounds k5Table) (c .before .args .moisture)))
-    (λ c. omega (arith, band-below (bounds k5Table) (c .before .args .moisture)))
+    (λ c. omega (arith, line-below (bounds k5Table) (c .before .args .moisture)))
+    (λ c. omega (arith, line-below (bounds k5Table) (c .before .args .moisture)))
     (λ c. let x = c .before .args .moisture in met (rw (c .moisture-band .ensures) (looked-up 100 k5Table (1 over 100) x)) (k5-scaled x)))

@@ -3,7 +3,7 @@ use borrow.Author.Needs.{needs}
 use native.Mathlib.Omega.{arith}
 use Rattle.sums.specs.Fraction.{_over_, partsOf}
 use Rattle.sums.specs.Table.{bounds}
-use Rattle.sums.proofs.Tables.{band-below, looked-up}
+use Rattle.sums.proofs.Tables.{line-below, looked-up}
 use Rattle.stores.specs.Rules.{k7Table}
 use Rattle.stores.proofs.TableTests.{k7-scaled, met}
 use Rattle.stores.proofs.tables.k7.Statement.{statement}
@@ -14,6 +14,6 @@ unfolding partsOf
 k7-spec =
     tie.close
     (tie.spec (search needs)
-    (λ c. omega (arith, band-below (bounds k7Table) (c .before .args .grain)))
-    (λ c. omega (arith, band-below (bounds k7Table) (c .before .args .grain)))
+    (λ c. omega (arith, line-below (bounds k7Table) (c .before .args .grain)))
+    (λ c. omega (arith, line-below (bounds k7Table) (c .before .args .grain)))
     (λ c. let x = c .before .args .grain in met (rw (c .grain-band .ensures) (looked-up 10 k7Table (1 over 10) x)) (k7-scaled x)))

@@ -1,7 +1,7 @@
 -- What is left of a unit is below the denominator.
 use borrow.Author.Needs.{needs}
 use mathlib.Core.Path.{refl}
-use Rattle.sums.proofs.Turns.{small}
+use Rattle.sums.proofs.Wrapping.{small}
 use Rattle.sums.proofs.mixed.rest_of.Statement.{statement}
 use Rattle.sums.proofs.mixed.rest_of.Tie as tie
 

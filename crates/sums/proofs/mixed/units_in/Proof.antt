@@ -1,7 +1,7 @@
 -- A u64 has at most 2 ^ 47 units.
 use borrow.Author.Needs.{needs}
 use mathlib.Core.Path.{refl}
-use Rattle.sums.proofs.Turns.{few}
+use Rattle.sums.proofs.Wrapping.{few}
 use Rattle.sums.proofs.mixed.units_in.Statement.{statement}
 use Rattle.sums.proofs.mixed.units_in.Tie as tie
 

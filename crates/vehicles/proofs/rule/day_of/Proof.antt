@@ -13,4 +13,4 @@ day-of-spec =
     (tie.spec (λ c κs. c .before .pre)
     (λ c κs. let b = c .before .before in (b .pre .0, ranged (b .args .g) (b .pre .0 .group) .inward))
     (search needs)
-    (λ c. (rw (c .drive .ensures .0, c .before .out-of .ensures .0), omega arith)))
+    (λ c. (rw (c .run-and-idle .ensures .0, c .before .out-of .ensures .0), omega arith)))

@@ -17,7 +17,7 @@ out-of-requires c κs =
         group = b .pre .0;
         coefficients = b .pre .1;
         control = rw (c .before .before .before .control-of .ensures) (control (b .args .g) (b .args .place) .most);
-        column = b .pre .4 .column;
+        period = b .pre .4 .period;
       },
       b .pre .4 .minutes,
     )

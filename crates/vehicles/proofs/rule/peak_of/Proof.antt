@@ -5,7 +5,7 @@ use lib.Dec.{lit<}
 use mir.Facts.{fits-below}
 use Rattle.sums.specs.Figures.{peakDenominator}
 use Rattle.sums.proofs.Products.{_⊗_}
-use Rattle.sums.proofs.Turns.{mixed-times}
+use Rattle.sums.proofs.Wrapping.{mixed-times}
 use Rattle.vehicles.proofs.Ranges.{ranged}
 use Rattle.vehicles.proofs.rule.peak_of.Statement.{statement}
 use Rattle.vehicles.proofs.rule.peak_of.Tie as tie

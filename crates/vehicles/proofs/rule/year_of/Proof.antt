@@ -2,30 +2,22 @@
 use borrow.Author.Needs.{needs}
 use native.Mathlib.Omega.{arith}
 use mathlib.Core.Path.{_≡_}
-use Prim.Native.Nat.{ℕ, _*_, _≤_, _-_}
-use lib.ListN.{getD}
-use mathlib.Core.List.{List}
+use Prim.Native.Nat.{_*_, _≤_, _-_}
 use mir.Facts.{fits-below}
 use Rattle.sums.specs.Choice.{sumTo}
 use Rattle.sums.proofs.Choices.{sumTo-step}
 use Rattle.sums.proofs.Products.{_⊗_}
-use Rattle.vehicles.specs.Parts.{dayParts, yearParts, noSeason}
-use Rattle.vehicles.specs.declared.group.Group.{Group}
-use Rattle.vehicles.specs.declared.group.Coefficients.{Coefficients}
-use Rattle.vehicles.specs.declared.warmup.Season.{Season}
+use Rattle.vehicles.specs.Parts.{monthParts, yearParts}
 use Rattle.vehicles.proofs.Ranges.{ranged, days}
 use Rattle.vehicles.proofs.rule.year_of.Statement.{statement}
 use Rattle.vehicles.proofs.rule.year_of.Tie as tie
 
-abbrev month : Group → Coefficients → ℕ → List Season → ℕ → ℕ
-month g k control seasons m = dayParts g k control (getD seasons m noSeason) * getD (g .days) m 0
-
 abbrev Inv-loop : tie.InvT-loop
-Inv-loop g k control seasons days total₀ i₀ total i =
-    (i ≤ 12) × (total ≤ i * 744000000000000) × (total ≡ sumTo i (month g k control seasons))
+Inv-loop g k control months days total₀ i₀ total i =
+    (i ≤ 12) × (total ≤ i * 744000000000000) × (total ≡ sumTo i (monthParts g k control months))
 
 abbrev μ-loop : tie.MeasureT-loop
-μ-loop g k control seasons days total₀ i₀ total i = 12 - i
+μ-loop g k control months days total₀ i₀ total i = 12 - i
 
 loop-holds : tie.Need-loop-holds Inv-loop μ-loop
 unfolding sumTo
@@ -36,7 +28,7 @@ day-of-requires c κs =
     let b = c .before .before in
     let p = b .before .before .pre in
     let s = p .3 (b .loop .i) (search needs) in
-    (record { group = p .0; coefficients = p .1; control = p .2; column = s .column }, s .minutes)
+    (record { group = p .0; coefficients = p .1; control = p .2; period = s .period }, s .minutes)
 
 -- the month's mass, with its bound
 bounded : (c : tie.After-wide8 Inv-loop μ-loop) → c .before .day-of .result * c .wide8 .result ≤ 744000000000000
@@ -51,7 +43,7 @@ loop-again c =
     let s = b .before .before .args in (
       search needs,
       omega (arith, bounded c),
-      rw (b .loop .inv .2, c .before .day-of .ensures .0, c .wide8 .ensures .0, sumTo-step (b .loop .i) (month (s .g) (s .k) (s .control) (s .t4))),
+      rw (b .loop .inv .2, c .before .day-of .ensures .0, c .wide8 .ensures .0, sumTo-step (b .loop .i) (monthParts (s .g) (s .k) (s .control) (s .t4))),
     )
 
 returns : tie.Need-returns Inv-loop μ-loop

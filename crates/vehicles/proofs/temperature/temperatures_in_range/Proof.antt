@@ -2,22 +2,21 @@
 use borrow.Author.Needs.{needs}
 use native.Mathlib.Omega.{arith}
 use mathlib.Core.Path.{_≡_}
-use mathlib.Core.Bool.{Bool, _&&_}
+use mathlib.Core.Bool.{Bool}
 use mathlib.Core.List.{List}
 use Prim.Native.Nat.{ℕ, _≤_, _-_}
 use lib.IntN.{ℤ, pos}
 use lib.ListN.{getD}
-use lib.Signed.{leZ}
 use mir.Syntax.{w16}
 use mir.Facts.{toZ-ofZ}
 use Rattle.sums.specs.Choice.{allTo}
 use Rattle.sums.proofs.Choices.{allTo-step}
-use Rattle.vehicles.specs.Fields.{minus, temperaturesInRange}
+use Rattle.vehicles.specs.Fields.{temperatureInRange, temperaturesInRange}
 use Rattle.vehicles.proofs.temperature.temperatures_in_range.Statement.{statement}
 use Rattle.vehicles.proofs.temperature.temperatures_in_range.Tie as tie
 
 abbrev test : List ℤ → ℕ → Bool
-test ts m = leZ (minus 600) (getD ts m (pos 0)) && leZ (getD ts m (pos 0)) (pos 600)
+test ts m = temperatureInRange (getD ts m (pos 0))
 
 abbrev Inv-loop : tie.InvT-loop
 Inv-loop ts ok₀ i₀ ok i = (i ≤ 12) × (ok ≡ allTo i (test ts))

@@ -1,5 +1,4 @@
 -- A product of bounded factors.
-use borrow.Author.Needs.{needs}
 use native.Mathlib.Omega.{arith}
 use mathlib.Core.Path.{refl}
 use mir.Facts.{fits-below}

@@ -6,7 +6,7 @@ use mir.Facts.{toZ-ofZ}
 use Rattle.sums.specs.Fraction.{partsOf}
 use Rattle.sums.proofs.Choices.{yes, no}
 use Rattle.sums.proofs.Tables.{scaled-at}
-use Rattle.vehicles.specs.Rules.{bandOf, carMinutes, truckMinutes, tableMinutes}
+use Rattle.vehicles.specs.Rules.{warmupBand, carMinutes, truckMinutes, tableMinutes}
 use Rattle.vehicles.proofs.warmup.table_minutes.Statement.{statement}
 use Rattle.vehicles.proofs.warmup.table_minutes.Tie as tie
 
@@ -16,8 +16,8 @@ table-minutes-spec =
     tie.close
     (tie.spec (search needs) (search needs) (search needs) (search needs) (search needs)
     (λ c.
-    let e = simp (toZ-ofZ (c .before .before .fits .t)) at (c .before .band .ensures .0) in
-    rw e (scaled-at 10 carMinutes (bandOf (c .before .before .args .t))) ∙ ap (partsOf 10) (yes _ _ _ _ (eq-eqb _ 1 (c .if1 .taken)) refl))
+    let e = simp (toZ-ofZ (c .before .before .fits .t)) at (c .before .warmup-band .ensures .0) in
+    rw e (scaled-at 10 carMinutes (warmupBand (c .before .before .args .t))) ∙ ap (partsOf 10) (yes _ _ _ _ (eq-eqb _ 1 (c .if1 .taken)) refl))
     (λ c.
-    let e = simp (toZ-ofZ (c .before .before .fits .t)) at (c .before .band .ensures .0) in
-    rw e (scaled-at 10 truckMinutes (bandOf (c .before .before .args .t))) ∙ ap (partsOf 10) (no _ _ _ _ (ne-eqb _ 1 (c .if1 .left)) refl)))
+    let e = simp (toZ-ofZ (c .before .before .fits .t)) at (c .before .warmup-band .ensures .0) in
+    rw e (scaled-at 10 truckMinutes (warmupBand (c .before .before .args .t))) ∙ ap (partsOf 10) (no _ _ _ _ (ne-eqb _ 1 (c .if1 .left)) refl)))

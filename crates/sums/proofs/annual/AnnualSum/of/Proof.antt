@@ -1,4 +1,4 @@
--- The mixed number's own.
+-- By `Mixed::of` with this denominator.
 use borrow.Author.Needs.{needs}
 use Rattle.sums.proofs.annual.AnnualSum.of.Statement.{statement}
 use Rattle.sums.proofs.annual.AnnualSum.of.Tie as tie

@@ -4,7 +4,7 @@ use native.Mathlib.Omega.{arith}
 use mathlib.Core.Path.{_≡_, ap, _∙_}
 use Prim.Native.Nat.{_+_, _*_}
 use Rattle.sums.specs.Figures.{partsIn, mixedOf}
-use Rattle.sums.proofs.Turns.{positive, split, gathered}
+use Rattle.sums.proofs.Wrapping.{positive, split, gathered}
 use Rattle.sums.proofs.mixed.Mixed.plus.Statement.{statement}
 use Rattle.sums.proofs.mixed.Mixed.plus.Tie as tie
 

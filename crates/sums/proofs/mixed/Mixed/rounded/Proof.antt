@@ -5,7 +5,7 @@ use mathlib.Core.Path.{_≡_, ap, _∙_}
 use Prim.Native.Nat.{ℕ, _+_, _*_, _/_, _%_, _^_, _<_}
 use native.Mathlib.Nat.{div-le-self, add-mul-div-right}
 use Rattle.sums.specs.Figures.{partsIn, nearest}
-use Rattle.sums.proofs.Turns.{positive, split}
+use Rattle.sums.proofs.Wrapping.{positive, split}
 use Rattle.sums.proofs.mixed.Mixed.rounded.Statement.{statement}
 use Rattle.sums.proofs.mixed.Mixed.rounded.Tie as tie
 

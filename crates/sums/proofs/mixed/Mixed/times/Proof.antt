@@ -6,7 +6,7 @@ use Prim.Native.Nat.{ℕ, _+_, _*_}
 use native.Mathlib.Nat.{add-le-add, mul-le-mul, mod-add-mod}
 use mir.Facts.{fits-below}
 use Rattle.sums.specs.Figures.{partsIn, mixedOf}
-use Rattle.sums.proofs.Turns.{positive, split, gathered}
+use Rattle.sums.proofs.Wrapping.{positive, split, gathered}
 use Rattle.sums.proofs.mixed.Mixed.times.Statement.{statement}
 use Rattle.sums.proofs.mixed.Mixed.times.Tie as tie
 

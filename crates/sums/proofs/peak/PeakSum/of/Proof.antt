@@ -1,4 +1,4 @@
--- The mixed number's own.
+-- By `Mixed::of` with this denominator.
 use borrow.Author.Needs.{needs}
 use Rattle.sums.proofs.peak.PeakSum.of.Statement.{statement}
 use Rattle.sums.proofs.peak.PeakSum.of.Tie as tie

@@ -1,4 +1,4 @@
--- The mixed number's own.
+-- By `Mixed::plus` with this denominator.
 use borrow.Author.Needs.{needs}
 use Rattle.sums.proofs.peak.PeakSum.plus.Statement.{statement}
 use Rattle.sums.proofs.peak.PeakSum.plus.Tie as tie

@@ -1,4 +1,4 @@
--- The mixed number's own.
+-- By `Mixed::times` with this denominator.
 use borrow.Author.Needs.{needs}
 use Rattle.sums.proofs.peak.PeakSum.times.Statement.{statement}
 use Rattle.sums.proofs.peak.PeakSum.times.Tie as tie

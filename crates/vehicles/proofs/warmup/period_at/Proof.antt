@@ -3,13 +3,13 @@ use borrow.Author.Needs.{needs}
 use mathlib.Core.Path.{refl}
 use mir.Facts.{toZ-ofZ}
 use Rattle.sums.proofs.Choices.{yes, no}
-use Rattle.vehicles.specs.Rules.{columnOf}
-use Rattle.vehicles.proofs.warmup.column_of.Statement.{statement}
-use Rattle.vehicles.proofs.warmup.column_of.Tie as tie
+use Rattle.vehicles.specs.Rules.{periodAt}
+use Rattle.vehicles.proofs.warmup.period_at.Statement.{statement}
+use Rattle.vehicles.proofs.warmup.period_at.Tie as tie
 
-pub column-of-spec : {M : Type 1} → statement M
-unfolding columnOf
-column-of-spec =
+pub period-at-spec : {M : Type 1} → statement M
+unfolding periodAt
+period-at-spec =
     tie.close
     (tie.spec (search needs)
     (λ c. yes _ _ _ _ (c .if1 .taken) refl)

@@ -4,20 +4,20 @@ use mathlib.Core.Path.{_∙_, sym}
 use Rattle.sums.proofs.Choices.{yes, no}
 use Rattle.vehicles.specs.Rules.{groupAnswer}
 use Rattle.vehicles.proofs.Ranges.{all-in-range}
-use Rattle.vehicles.proofs.rule.group_emission.Statement.{statement}
-use Rattle.vehicles.proofs.rule.group_emission.Tie as tie
+use Rattle.vehicles.proofs.rule.group_emissions.Statement.{statement}
+use Rattle.vehicles.proofs.rule.group_emissions.Tie as tie
 
-pub group-emission-spec : {M : Type 1} → statement M
+pub group-emissions-spec : {M : Type 1} → statement M
 unfolding groupAnswer
-group-emission-spec =
+group-emissions-spec =
     tie.close
     (tie.spec (search needs) (search needs) (search needs)
     (λ c κs. all-in-range _ _ _ (sym (c .before .before .before .in-range .ensures) ∙ c .before .before .if1 .taken))
     (search needs)
     (λ c.
     yes _ _ _ _ (sym (c .before .before .before .before .in-range .ensures) ∙ c .before .before .before .if1 .taken)
-    (yes _ _ _ _ (sym (c .before .before .is-barred .ensures) ∙ c .before .if2 .taken) (c .refuse .ensures)))
+    (yes _ _ _ _ (sym (c .before .before .is-not-zero .ensures) ∙ c .before .if2 .taken) (c .refuse .ensures)))
     (λ c.
     yes _ _ _ _ (sym (c .before .before .before .before .in-range .ensures) ∙ c .before .before .before .if1 .taken)
-    (no _ _ _ _ (sym (c .before .before .is-barred .ensures) ∙ c .before .if2 .left) (rw (c .emissions-of .ensures))))
+    (no _ _ _ _ (sym (c .before .before .is-not-zero .ensures) ∙ c .before .if2 .left) (rw (c .emissions-of .ensures))))
     (λ c. no _ _ _ _ (sym (c .before .before .in-range .ensures) ∙ c .before .if1 .left) (c .refuse2 .ensures)))

@@ -5,7 +5,8 @@ use mathlib.Core.Path.{_≡_, sym, ap, _∙_}
 use Prim.Native.Nat.{ℕ, _+_, _*_, _/_, _%_, _^_, _<_, _≤_}
 use native.Mathlib.Nat.{le-of-lt, mod-lt, mod-eq-of-lt, div-add-mod', div-lt-iff-lt-mul, add-mul-div-right, add-mul-mod-self-right}
 use native.Mathlib.Omega.{arith}
-use Rattle.sums.specs.Figures.{partsIn, mixedOf, Radix}
+use Rattle.sums.specs.Arithmetic.{Denominator}
+use Rattle.sums.specs.Figures.{partsIn, mixedOf}
 use Rattle.sums.specs.declared.mixed.Mixed.{Mixed}
 
 -- a mixed number by its fields
@@ -13,13 +14,13 @@ the-mixed : {s t : Mixed} → s .whole ≡ t .whole → s .part ≡ t .part → 
 the-mixed p q = λ i. record { whole = p i; part = q i }
 
 -- what is asked of a denominator: a u64 has few units, and what is left of one is small
-pub positive : {d : ℕ} → Radix d → 0 < d
+pub positive : {d : ℕ} → Denominator d → 0 < d
 positive h = omega arith
 
-pub few : {d : ℕ} (p : ℕ) → Radix d → p < 2 ^ 64 → p / d ≤ 140737488355328
+pub few : {d : ℕ} (p : ℕ) → Denominator d → p < 2 ^ 64 → p / d ≤ 140737488355328
 few p h b = le-of-lt (div-lt-iff-lt-mul (positive h) .1 (omega arith))
 
-pub small : {d : ℕ} (p : ℕ) → Radix d → p % d ≤ 140737488355328
+pub small : {d : ℕ} (p : ℕ) → Denominator d → p % d ≤ 140737488355328
 small p h = omega (arith, mod-lt p (positive h))
 
 module _ (d : ℕ) (pos : 0 < d) where

@@ -2,16 +2,16 @@
 use borrow.Author.Needs.{needs}
 use lib.Dec.{lit<}
 use Rattle.sums.specs.Figures.{annualDenominator, peakDenominator}
-use Rattle.sums.proofs.Turns.{mixed-times}
-use Rattle.stores.proofs.rules.given_bulk.Statement.{statement}
-use Rattle.stores.proofs.rules.given_bulk.Tie as tie
+use Rattle.sums.proofs.Wrapping.{mixed-times}
+use Rattle.stores.proofs.rules.bulk_answer.Statement.{statement}
+use Rattle.stores.proofs.rules.bulk_answer.Tie as tie
 
-pub given-bulk-spec : {M : Type 1} → statement M
-given-bulk-spec =
+pub bulk-answer-spec : {M : Type 1} → statement M
+bulk-answer-spec =
     tie.close
     (tie.spec (search needs) (search needs) (search needs) (search needs) (search needs) (search needs)
     (λ c. rw (
-      c .given .ensures,
+      c .answer .ensures,
       c .before .times3 .ensures,
       c .before .before .of2 .ensures,
       c .before .before .before .times2 .ensures,

@@ -4,13 +4,13 @@ use mathlib.Core.Path.{refl, ap, _∙_}
 use mir.Facts.{toZ-ofZ}
 use Rattle.sums.specs.Fraction.{partsOf}
 use Rattle.sums.proofs.Choices.{yes, no}
-use Rattle.vehicles.specs.Rules.{minutesOf}
-use Rattle.vehicles.proofs.warmup.minutes_of.Statement.{statement}
-use Rattle.vehicles.proofs.warmup.minutes_of.Tie as tie
+use Rattle.vehicles.specs.Rules.{minutesAt}
+use Rattle.vehicles.proofs.warmup.minutes_at.Statement.{statement}
+use Rattle.vehicles.proofs.warmup.minutes_at.Tie as tie
 
-pub minutes-of-spec : {M : Type 1} → statement M
-unfolding minutesOf partsOf
-minutes-of-spec =
+pub minutes-at-spec : {M : Type 1} → statement M
+unfolding minutesAt partsOf
+minutes-at-spec =
     tie.close
     (tie.spec (search needs)
     (λ c. ap (partsOf 10) (yes _ _ _ _ (c .if1 .taken) refl))

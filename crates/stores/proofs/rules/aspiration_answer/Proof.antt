@@ -2,16 +2,16 @@
 use borrow.Author.Needs.{needs}
 use lib.Dec.{lit<}
 use Rattle.sums.specs.Figures.{annualDenominator, peakDenominator}
-use Rattle.sums.proofs.Turns.{mixed-times}
-use Rattle.stores.proofs.rules.given_aspiration.Statement.{statement}
-use Rattle.stores.proofs.rules.given_aspiration.Tie as tie
+use Rattle.sums.proofs.Wrapping.{mixed-times}
+use Rattle.stores.proofs.rules.aspiration_answer.Statement.{statement}
+use Rattle.stores.proofs.rules.aspiration_answer.Tie as tie
 
-pub given-aspiration-spec : {M : Type 1} → statement M
-given-aspiration-spec =
+pub aspiration-answer-spec : {M : Type 1} → statement M
+aspiration-answer-spec =
     tie.close
     (tie.spec (search needs) (search needs) (search needs) (search needs) (search needs) (search needs) (search needs) (search needs)
     (λ c. rw (
-      c .given .ensures,
+      c .answer .ensures,
       c .before .times5 .ensures,
       c .before .before .times4 .ensures,
       c .before .before .before .of2 .ensures,

@@ -1,0 +1,45 @@
+-- The figure of terms added one by one is 01's: their fractions added, and rounded once. Each term is a whole number of exact units, so the sum of
+-- the fractions is as many units as the sum has; and one number has one figure, however its fraction is written. Assumes nothing.
+use mathlib.Core.Path.{_≡_, sym, _∙_}
+use Prim.Native.Nat.{ℕ, _+_, _*_, _%_, _^_, _<_, _≤_}
+use native.Mathlib.Nat.{mul-div-mul-right}
+use native.Mathlib.Omega.{arith}
+use lib.Dec.{lit<}
+use Rattle.sums.specs.Choice.{sumTo}
+use Rattle.sums.specs.Fraction.{Frac, _over_, whole, _⊙_, _≈_, totalTo, partsOf}
+use Rattle.sums.specs.Figures.{annualDenominator, peakDenominator, partsIn, nearest}
+use Rattle.sums.proofs.Fractions.{≈-refl, ≈-⊙, ≈-over, totalTo-parts}
+use Rattle.sums.proofs.Exact.{Exact, annualMost, peakMost, addedTo, full-annual, full-peak}
+
+pub nearest-same : {x y : Frac} → x ≈ y → nearest x ≡ nearest y
+unfolding nearest
+nearest-same {x} {y} e =
+    let n : (2 * x .num + x .den) * y .den ≡ (2 * y .num + y .den) * x .den = omega (arith, e .cross) in
+    let d : 2 * x .den * y .den ≡ 2 * y .den * x .den = omega arith in
+    sym (mul-div-mul-right (2 * x .num + x .den) (2 * x .den) (e .right)) ∙ rw (n, d) (mul-div-mul-right (2 * y .num + y .den) (2 * y .den) (e .left))
+
+-- n terms, with u printed units in a tonne or a gram per second and d exact units in a printed one: each is a whole number of exact units, at most b
+pub record Terms (u d b : ℕ) (x : ℕ → Frac) (n : ℕ) : Type 0 where
+  pub few : n ≤ 1023
+  pub same : (i : ℕ) → i < n → x i ≈ (partsOf (u * d) (x i) over (u * d))
+  pub most : (i : ℕ) → i < n → partsOf (u * d) (x i) ≤ b
+
+abbrev unitsOf : ℕ → (ℕ → Frac) → ℕ → ℕ
+unitsOf k x i = partsOf k (x i)
+
+module _ (u d : ℕ) (pd : 0 < d) (pk : 0 < u * d) (x : ℕ → Frac) (n : ℕ) (same : (i : ℕ) → i < n → x i ≈ (partsOf (u * d) (x i) over (u * d))) where
+  total : totalTo n x ⊙ whole u ≈ (sumTo n (unitsOf (u * d) x) over d)
+  total = ≈-over (sumTo n (unitsOf (u * d) x)) d pd (omega arith) (≈-⊙ (totalTo-parts x (unitsOf (u * d) x) (u * d) pk n same) (≈-refl u 1 (lit< tt)))
+
+  figured : Exact d n (unitsOf (u * d) x) → nearest (partsIn d (addedTo d n (unitsOf (u * d) x)) over d) % 2 ^ 64 ≡ nearest (totalTo n x ⊙ whole u)
+  figured e = e .figure ∙ sym (nearest-same total)
+
+-- tonnes, to the millionth
+pub annual-figure : (x : ℕ → Frac) (n : ℕ) → Terms 1000000 annualDenominator annualMost x n →
+    nearest (partsIn annualDenominator (addedTo annualDenominator n (unitsOf (1000000 * annualDenominator) x)) over annualDenominator) % 2 ^ 64 ≡ nearest (totalTo n x ⊙ whole 1000000)
+annual-figure x n t = figured 1000000 annualDenominator (lit< tt) (lit< tt) x n (t .same) (full-annual (unitsOf (1000000 * annualDenominator) x) n (t .few) (t .most))
+
+-- grams per second, to the ten-millionth
+pub peak-figure : (x : ℕ → Frac) (n : ℕ) → Terms 10000000 peakDenominator peakMost x n →
+    nearest (partsIn peakDenominator (addedTo peakDenominator n (unitsOf (10000000 * peakDenominator) x)) over peakDenominator) % 2 ^ 64 ≡ nearest (totalTo n x ⊙ whole 10000000)
+peak-figure x n t = figured 10000000 peakDenominator (lit< tt) (lit< tt) x n (t .same) (full-peak (unitsOf (10000000 * peakDenominator) x) n (t .few) (t .most))
