@@ -1,0 +1,106 @@
+// Lines of the listing, on standard output.
+use super::numbers::Record;
+use sums::AnnualSum;
+use sums::Emission;
+use sums::PeakSum;
+use sums::Verdict;
+use sums::mixed::Mixed;
+
+// The record's first 32 bytes.
+pub fn label(r: &Record) {
+    front(r, 32);
+    space();
+}
+
+fn front(s: &[u8], n: usize) {
+    if n <= s.len() {
+        io::write_all(1, &s[0..n]);
+    }
+}
+
+fn space() {
+    io::write_all(1, b" ");
+}
+
+fn line_end() {
+    io::write_all(1, b"\n");
+}
+
+fn number(n: u64) {
+    io::print_decimal(1, n);
+}
+
+fn mixed(m: Mixed) {
+    number(m.whole);
+    space();
+    number(m.part);
+}
+
+pub fn verdict(v: Verdict) {
+    number(v.number as u64);
+    space();
+    number(v.slot as u64);
+    line_end();
+}
+
+// Both sums and their figures.
+pub fn sums(e: Emission) {
+    let annual = e.annual;
+    let peak = e.peak;
+    mixed(annual.0);
+    space();
+    mixed(peak.0);
+    space();
+    number(annual.rounded());
+    space();
+    number(peak.rounded());
+    line_end();
+}
+
+pub fn all_sums(six: [Emission; 6]) {
+    sums(six[0]);
+    sums(six[1]);
+    sums(six[2]);
+    sums(six[3]);
+    sums(six[4]);
+    sums(six[5]);
+}
+
+pub fn emission(e: Emission) {
+    number(e.code as u64);
+    space();
+    sums(e);
+}
+
+pub fn all_emissions(six: [Emission; 6]) {
+    emission(six[0]);
+    emission(six[1]);
+    emission(six[2]);
+    emission(six[3]);
+    emission(six[4]);
+    emission(six[5]);
+}
+
+pub fn added(times: u16) {
+    io::write_all(1, b"added ");
+    number(times as u64);
+    line_end();
+}
+
+fn mixed_line(m: Mixed) {
+    mixed(m);
+    line_end();
+}
+
+pub fn annual_sum(s: AnnualSum) {
+    mixed_line(s.0);
+}
+
+pub fn peak_sum(s: PeakSum) {
+    mixed_line(s.0);
+}
+
+pub fn figure(n: u64) {
+    number(n);
+    line_end();
+}

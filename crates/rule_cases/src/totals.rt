@@ -1,0 +1,49 @@
+// Running totals, by `plus` alone.
+use sums::Emission;
+
+pub fn zero() -> [Emission; 6] {
+    let none = Emission::none();
+    [none; 6]
+}
+
+// One emission, and none in the other places.
+pub fn first(e: Emission) -> [Emission; 6] {
+    let mut six = zero();
+    six[0] = e;
+    six
+}
+
+// The code is of no account here.
+fn plus(a: Emission, b: Emission) -> Emission {
+    let annual = a.annual;
+    let peak = a.peak;
+    let other = b.annual;
+    let other_peak = b.peak;
+    Emission {
+        code: 0,
+        annual: annual.plus(other),
+        peak: peak.plus(other_peak),
+    }
+}
+
+pub fn joined(a: [Emission; 6], b: [Emission; 6]) -> [Emission; 6] {
+    [
+        plus(a[0], b[0]),
+        plus(a[1], b[1]),
+        plus(a[2], b[2]),
+        plus(a[3], b[3]),
+        plus(a[4], b[4]),
+        plus(a[5], b[5]),
+    ]
+}
+
+pub fn repeated(six: [Emission; 6], times: u16) -> [Emission; 6] {
+    let mut total = zero();
+    let mut left = times;
+    while left > 0 {
+        let more = joined(total, six);
+        total = more;
+        left -= 1;
+    }
+    total
+}
