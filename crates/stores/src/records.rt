@@ -51,21 +51,21 @@ fn bulk_in_range(b: Bulk) -> bool
         & (b.amount <= 1_000_000)
 }
 
-pub(crate) fn handling_in_range(h: Handling) -> bool
+pub fn handling_in_range(h: Handling) -> bool
     ensures { λ r. ⌜ r ≡ handlingInRange h ⌝ }
 {
     let b = h.bulk;
     bulk_in_range(b) & (1 <= h.drop) & (h.drop <= 8)
 }
 
-pub(crate) fn standing_in_range(s: Standing) -> bool
+pub fn standing_in_range(s: Standing) -> bool
     ensures { λ r. ⌜ r ≡ standingInRange s ⌝ }
 {
     let b = s.bulk;
     bulk_in_range(b) & (s.k6 <= 200) & ((s.k6 == 0) | (100 <= s.k6))
 }
 
-pub(crate) fn aspiration_in_range(a: Aspiration) -> bool
+pub fn aspiration_in_range(a: Aspiration) -> bool
     ensures { λ r. ⌜ r ≡ aspirationInRange a ⌝ }
 {
     (1 <= a.dust)

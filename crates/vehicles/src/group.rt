@@ -65,7 +65,7 @@ fn days_in_range(days: [u8; 12]) -> bool
         & (days[11] <= 31)
 }
 
-pub(crate) fn group_in_range(g: Group) -> bool
+pub fn group_in_range(g: Group) -> bool
     ensures { λ r. ⌜ r ≡ groupInRange g ⌝ }
 {
     let outward = g.outward;
@@ -87,7 +87,7 @@ pub(crate) fn group_in_range(g: Group) -> bool
         & days_in_range(days)
 }
 
-fn coefficients_in_range(k: Coefficients) -> bool
+pub fn coefficients_in_range(k: Coefficients) -> bool
     ensures { λ r. ⌜ r ≡ coefficientsInRange k ⌝ }
 {
     let w = k.warmup;
@@ -112,7 +112,7 @@ pub(crate) fn all_in_range(ks: [Coefficients; 6]) -> bool
         & coefficients_in_range(ks[5])
 }
 
-pub(crate) fn all_zero(k: Coefficients) -> bool
+pub fn all_zero(k: Coefficients) -> bool
     ensures { λ r. ⌜ r ≡ allZero k ⌝ }
 {
     let w = k.warmup;

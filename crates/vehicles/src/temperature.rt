@@ -10,7 +10,7 @@ fn temperature_in_range(t: i16) -> bool
     (-600 <= t) & (t <= 600)
 }
 
-pub(crate) fn temperatures_in_range(ts: [i16; 12]) -> bool
+pub fn temperatures_in_range(ts: [i16; 12]) -> bool
     ensures { λ r. ⌜ r ≡ temperaturesInRange ts ⌝ }
 {
     let mut ok = true;

@@ -1,0 +1,11 @@
+-- Twelve bytes, as they stand.
+use borrow.Author.Needs.{needs}
+use mathlib.Core.Path.{refl}
+use Rattle.sums.specs.Choice.{listTo}
+use Rattle.slots.specs.Layout.{daysOf}
+use Rattle.slots.proofs.group.days_of.Statement.{statement}
+use Rattle.slots.proofs.group.days_of.Tie as tie
+
+pub days-of-spec : {M : Type 1} → statement M
+unfolding daysOf listTo
+days-of-spec = tie.close (tie.spec (search needs) (search needs) (search needs) (search needs) (search needs) (search needs) (search needs) (search needs) (search needs) (search needs) (search needs) (search needs) (λ c. refl))

@@ -1,0 +1,158 @@
+-- 01, "The slot file": the fields of slot 0, a group, coefficients and a store record, by their byte positions.
+use Prim.Native.Nat.{ℕ, _+_, _*_, _/_, _%_}
+use mathlib.Core.Bool.{Bool}
+use mathlib.Core.List.{List, [], _∷_}
+use lib.Dec.{leb, eqb}
+use lib.IntN.{ℤ}
+use Rattle.sums.specs.Choice.{if_then_else, allOf, listTo}
+use Rattle.vehicles.specs.Fields.{groupInRange, coefficientsInRange}
+use Rattle.vehicles.specs.declared.group.Distances.{Distances}
+use Rattle.vehicles.specs.declared.group.Group.{Group}
+use Rattle.vehicles.specs.declared.group.Coefficients.{Coefficients}
+use Rattle.stores.specs.Fields.{handlingInRange, standingInRange, aspirationInRange}
+use Rattle.stores.specs.declared.records.Bulk.{Bulk}
+use Rattle.stores.specs.declared.records.Handling.{Handling}
+use Rattle.stores.specs.declared.records.Standing.{Standing}
+use Rattle.stores.specs.declared.records.Aspiration.{Aspiration}
+use Rattle.slots.specs.Bytes.{byteAt, u16At, u32At, i16At, zeroFrom, numberOf}
+use Rattle.slots.specs.declared.header.Header.{Header}
+use Rattle.slots.specs.declared.group.GroupRead.{GroupRead}
+use Rattle.slots.specs.declared.coefficients.CoefficientsRead.{CoefficientsRead}
+use Rattle.slots.specs.declared.store.Store.{Store}
+use Rattle.slots.specs.declared.store.Store.the-variants as store
+use Rattle.slots.specs.declared.store.StoreRead.{StoreRead}
+use Rattle.slots.specs.declared.store.StoreRead.the-variants.{Record, WrongKind, OutOfRange}
+
+-- "A chain runs by each slot's next index (0..1)"
+abbrev pub nextOf : List ℕ → ℕ
+nextOf t = u16At t 0
+
+-- **Slot 0**: "8..31 the twelve monthly mean temperatures as signed 16-bit tenths of a degree Celsius, January first"
+unfoldable pub temperaturesOf : List ℕ → List ℤ
+temperaturesOf t = listTo 12 (λ (m : ℕ). i16At t (8 + 2 * m))
+
+-- "0..1 format number ... 2..3 count of all slots. 4..5 first group. 6..7 first store record"; "Are bytes 32..63 of slot 0 zero?"
+unfoldable pub headerOf : List ℕ → Header
+headerOf t = record {
+  format = u16At t 0;
+  count = u16At t 2;
+  groups = u16At t 4;
+  stores = u16At t 6;
+  temperatures = temperaturesOf t;
+  rest = zeroFrom t 32 32;
+}
+
+-- **Group**: "22..33 days worked per month", and two distances
+unfoldable pub daysOf : List ℕ → List ℕ
+daysOf t = listTo 12 (λ (m : ℕ). byteAt t (22 + m))
+
+unfoldable pub distancesAt : List ℕ → ℕ → Distances
+distancesAt t a = record { nearest = record { 0 = u16At t a }; farthest = record { 0 = u16At t (a + 2) } }
+
+-- "3 category ... 4 fuel ... 5 flags: bit 0 emission control done, bit 1 heated stand ... 6..7 vehicles N ... 8..9 most leaving in one hour N' ...
+-- 10 leaving share a, 11 neutraliser factor for run and idle, 12 the same for warm-up ... 13 idle time ... 14..21 four distances"
+unfoldable pub groupOf : List ℕ → Group
+groupOf t = record {
+  category = byteAt t 3;
+  fuel = byteAt t 4;
+  controlled = eqb (byteAt t 5 % 2) 1;
+  heated = eqb (byteAt t 5 / 2 % 2) 1;
+  vehicles = u16At t 6;
+  leaving = u16At t 8;
+  share = byteAt t 10;
+  neutraliser = record { running = byteAt t 11; warming = byteAt t 12 };
+  idle = record { 0 = byteAt t 13 };
+  outward = distancesAt t 14;
+  inward = distancesAt t 18;
+  days = daysOf t;
+}
+
+-- question 9 of a group: its fields, "the others zero" of the flags, and every byte that is not named
+unfoldable pub groupGood : List ℕ → Group → Bool
+groupGood t g = allOf (groupInRange g ∷ leb (byteAt t 5) 3 ∷ zeroFrom t 36 28 ∷ [])
+
+-- "34..35 first coefficient slot"
+unfoldable pub groupRead : List ℕ → GroupRead
+groupRead t = record { number = numberOf (eqb (byteAt t 2) 1) (groupGood t (groupOf t)); group = groupOf t; next = nextOf t; first = u16At t 34 }
+
+-- **Coefficients**: "from 4 seven 4-byte numbers ...: warm-up per minute in warm, transitional, cold period; run per kilometre in the same three; idle per minute"
+unfoldable pub coefficientsOf : List ℕ → Coefficients
+coefficientsOf t = record {
+  warmup = record { 0 = u32At t 4 } ∷ record { 0 = u32At t 8 } ∷ record { 0 = u32At t 12 } ∷ [];
+  run = record { 0 = u32At t 16 } ∷ record { 0 = u32At t 20 } ∷ record { 0 = u32At t 24 } ∷ [];
+  idle = record { 0 = u32At t 28 };
+}
+
+-- question 9 of coefficients: "The pollutant number is judged by 10 ... not by 9"
+unfoldable pub coefficientsGood : List ℕ → Coefficients → Bool
+coefficientsGood t k = allOf (coefficientsInRange k ∷ zeroFrom t 32 32 ∷ [])
+
+unfoldable pub coefficientsRead : List ℕ → CoefficientsRead
+coefficientsRead t = record {
+  number = numberOf (eqb (byteAt t 2) 2) (coefficientsGood t (coefficientsOf t));
+  pollutant = byteAt t 3;
+  coefficients = coefficientsOf t;
+  next = nextOf t;
+}
+
+-- **Store record**: "3 dust code ... 4..5 store number ... Handling and standing: 6 material ... 8..9 wind ... 10..11 moisture ... 12..13 grain ... 14 openness ... 20..23 amount"
+unfoldable pub bulkOf : List ℕ → Bulk
+bulkOf t = record {
+  dust = byteAt t 3;
+  store = u16At t 4;
+  material = byteAt t 6;
+  wind = u16At t 8;
+  moisture = u16At t 10;
+  grain = u16At t 12;
+  openness = byteAt t 14;
+  amount = u32At t 20;
+}
+
+-- "Handling only: 15 drop class"
+unfoldable pub handlingOf : List ℕ → Handling
+handlingOf t = record { bulk = bulkOf t; drop = byteAt t 15 }
+
+unfoldable pub handlingGood : List ℕ → Handling → Bool
+handlingGood t h = allOf (handlingInRange h ∷ eqb (byteAt t 7) 0 ∷ zeroFrom t 16 4 ∷ zeroFrom t 24 40 ∷ [])
+
+unfoldable pub readHandling : List ℕ → StoreRead
+readHandling t = if_then_else (handlingGood t (handlingOf t)) (Record (store.Handling (handlingOf t))) OutOfRange
+
+-- "Standing only: 16..17 K6"
+unfoldable pub standingOf : List ℕ → Standing
+standingOf t = record { bulk = bulkOf t; k6 = u16At t 16 }
+
+unfoldable pub standingGood : List ℕ → Standing → Bool
+standingGood t s = allOf (standingInRange s ∷ eqb (byteAt t 7) 0 ∷ eqb (byteAt t 15) 0 ∷ zeroFrom t 18 2 ∷ zeroFrom t 24 40 ∷ [])
+
+unfoldable pub readStanding : List ℕ → StoreRead
+readStanding t = if_then_else (standingGood t (standingOf t)) (Record (store.Standing (standingOf t))) OutOfRange
+
+-- "Aspiration: 8..11 dust C ... 12..15 gas V ... 16..17 capture ... 18..19 hours"
+unfoldable pub aspirationOf : List ℕ → Aspiration
+aspirationOf t = record {
+  dust = byteAt t 3;
+  store = u16At t 4;
+  concentration = u32At t 8;
+  flow = u32At t 12;
+  capture = u16At t 16;
+  hours = u16At t 18;
+}
+
+unfoldable pub aspirationGood : List ℕ → Aspiration → Bool
+aspirationGood t a = allOf (aspirationInRange a ∷ zeroFrom t 6 2 ∷ zeroFrom t 20 44 ∷ [])
+
+unfoldable pub readAspiration : List ℕ → StoreRead
+readAspiration t = if_then_else (aspirationGood t (aspirationOf t)) (Record (store.Aspiration (aspirationOf t))) OutOfRange
+
+-- "(byte 2 = 3 handling, 4 standing, 5 aspiration)"
+unfoldable pub readStore : List ℕ → StoreRead
+readStore t =
+    if_then_else (eqb (byteAt t 2) 3) (readHandling t)
+    (if_then_else (eqb (byteAt t 2) 4) (readStanding t) (if_then_else (eqb (byteAt t 2) 5) (readAspiration t) WrongKind))
+
+-- the paper's number for each case of a store record's read
+abbrev pub storeNumber : StoreRead → ℕ
+storeNumber (Record r) = 0
+storeNumber WrongKind = 8
+storeNumber OutOfRange = 9

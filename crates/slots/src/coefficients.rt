@@ -1,0 +1,53 @@
+// A coefficient slot.
+ghost use mathlib.Core.Path.{_≡_};
+ghost use Rattle.slots.specs.Layout.{coefficientsOf, coefficientsGood, coefficientsRead};
+use super::bytes;
+use vehicles::Coefficients;
+use vehicles::PerKilometre;
+use vehicles::PerMinute;
+
+// 0, or the number of the first of questions 8 and 9 that is answered no; the pollutant; the fields; the next index.
+pub struct CoefficientsRead {
+    pub number: u8,
+    pub pollutant: u8,
+    pub coefficients: Coefficients,
+    pub next: u16,
+}
+
+fn coefficients_of(t: &[u8; 64]) -> Coefficients
+    ensures { λ r. ⌜ r ≡ coefficientsOf (now (t .entry)) ⌝ }
+{
+    let warmup = [
+        PerMinute(bytes::u32_at(t, 4)),
+        PerMinute(bytes::u32_at(t, 8)),
+        PerMinute(bytes::u32_at(t, 12)),
+    ];
+    let run = [
+        PerKilometre(bytes::u32_at(t, 16)),
+        PerKilometre(bytes::u32_at(t, 20)),
+        PerKilometre(bytes::u32_at(t, 24)),
+    ];
+    Coefficients {
+        warmup,
+        run,
+        idle: PerMinute(bytes::u32_at(t, 28)),
+    }
+}
+
+fn coefficients_good(t: &[u8; 64], k: Coefficients) -> bool
+    ensures { λ r. ⌜ r ≡ coefficientsGood (now (t .entry)) k ⌝ }
+{
+    vehicles::coefficients_in_range(k) & bytes::zero_from(t, 32, 32)
+}
+
+pub fn read_coefficients(t: &[u8; 64]) -> CoefficientsRead
+    ensures { λ r. ⌜ r ≡ coefficientsRead (now (t .entry)) ⌝ }
+{
+    let k = coefficients_of(t);
+    CoefficientsRead {
+        number: bytes::number_of(t[2] == 2, coefficients_good(t, k)),
+        pollutant: t[3],
+        coefficients: k,
+        next: bytes::u16_at(t, 0),
+    }
+}

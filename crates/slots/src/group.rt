@@ -1,0 +1,87 @@
+// A group's slot.
+ghost use mathlib.Core.Path.{_≡_};
+ghost use Prim.Native.Nat.{_≤_};
+ghost use Rattle.slots.specs.Layout.{daysOf, distancesAt, groupOf, groupGood, groupRead};
+use super::bytes;
+use vehicles::Distances;
+use vehicles::Group;
+use vehicles::Metres;
+use vehicles::Minutes;
+use vehicles::Neutraliser;
+
+// 0, or the number of the first of questions 8 and 9 that is answered no; the fields; the next index and the first coefficient slot.
+pub struct GroupRead {
+    pub number: u8,
+    pub group: Group,
+    pub next: u16,
+    pub first: u16,
+}
+
+fn days_of(t: &[u8; 64]) -> [u8; 12]
+    ensures { λ r. ⌜ r ≡ daysOf (now (t .entry)) ⌝ }
+{
+    [
+        t[22],
+        t[23],
+        t[24],
+        t[25],
+        t[26],
+        t[27],
+        t[28],
+        t[29],
+        t[30],
+        t[31],
+        t[32],
+        t[33],
+    ]
+}
+
+fn distances_at(t: &[u8; 64], at: usize) -> Distances
+    requires { ⌜ at ≤ 60 ⌝ }
+    ensures { λ r. ⌜ r ≡ distancesAt (now (t .entry)) at ⌝ }
+{
+    Distances {
+        nearest: Metres(bytes::u16_at(t, at) as u32),
+        farthest: Metres(bytes::u16_at(t, at + 2) as u32),
+    }
+}
+
+fn group_of(t: &[u8; 64]) -> Group
+    ensures { λ r. ⌜ r ≡ groupOf (now (t .entry)) ⌝ }
+{
+    Group {
+        category: t[3],
+        fuel: t[4],
+        controlled: t[5] % 2 == 1,
+        heated: t[5] / 2 % 2 == 1,
+        vehicles: bytes::u16_at(t, 6),
+        leaving: bytes::u16_at(t, 8),
+        share: t[10],
+        neutraliser: Neutraliser {
+            running: t[11],
+            warming: t[12],
+        },
+        idle: Minutes(bytes::long(t[13])),
+        outward: distances_at(t, 14),
+        inward: distances_at(t, 18),
+        days: days_of(t),
+    }
+}
+
+fn group_good(t: &[u8; 64], g: Group) -> bool
+    ensures { λ r. ⌜ r ≡ groupGood (now (t .entry)) g ⌝ }
+{
+    vehicles::group_in_range(g) & (t[5] <= 3) & bytes::zero_from(t, 36, 28)
+}
+
+pub fn read_group(t: &[u8; 64]) -> GroupRead
+    ensures { λ r. ⌜ r ≡ groupRead (now (t .entry)) ⌝ }
+{
+    let group = group_of(t);
+    GroupRead {
+        number: bytes::number_of(t[2] == 1, group_good(t, group)),
+        group,
+        next: bytes::u16_at(t, 0),
+        first: bytes::u16_at(t, 34),
+    }
+}

@@ -1,0 +1,19 @@
+// What the slots of a slot file hold: slot 0, groups, coefficients and store records, read from 64 bytes each.
+mod bytes;
+pub mod coefficients;
+pub mod group;
+pub mod header;
+pub mod slot;
+pub mod store;
+
+pub use coefficients::CoefficientsRead;
+pub use coefficients::read_coefficients;
+pub use group::GroupRead;
+pub use group::read_group;
+pub use header::Header;
+pub use header::read_header;
+pub use slot::slot_at;
+pub use store::Store;
+pub use store::StoreRead;
+pub use store::next_of;
+pub use store::read_store;

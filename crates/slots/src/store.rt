@@ -1,0 +1,144 @@
+// A store record's slot.
+ghost use mathlib.Core.Path.{_≡_};
+ghost use Rattle.slots.specs.Layout.{bulkOf, handlingOf, handlingGood, readHandling, standingOf, standingGood, readStanding, aspirationOf, aspirationGood, readAspiration, readStore, nextOf};
+use super::bytes;
+use stores::Aspiration;
+use stores::Bulk;
+use stores::Handling;
+use stores::Standing;
+
+pub enum Store {
+    Handling(Handling),
+    Standing(Standing),
+    Aspiration(Aspiration),
+}
+
+// A record, or the question that the slot is refused by: 8 and 9.
+pub enum StoreRead {
+    Record(Store),
+    WrongKind,
+    OutOfRange,
+}
+
+fn bulk_of(t: &[u8; 64]) -> Bulk
+    ensures { λ r. ⌜ r ≡ bulkOf (now (t .entry)) ⌝ }
+{
+    Bulk {
+        dust: t[3],
+        store: bytes::u16_at(t, 4),
+        material: t[6],
+        wind: bytes::u16_at(t, 8),
+        moisture: bytes::u16_at(t, 10),
+        grain: bytes::u16_at(t, 12),
+        openness: t[14],
+        amount: bytes::u32_at(t, 20),
+    }
+}
+
+fn handling_of(t: &[u8; 64]) -> Handling
+    ensures { λ r. ⌜ r ≡ handlingOf (now (t .entry)) ⌝ }
+{
+    Handling {
+        bulk: bulk_of(t),
+        drop: t[15],
+    }
+}
+
+fn handling_good(t: &[u8; 64], h: Handling) -> bool
+    ensures { λ r. ⌜ r ≡ handlingGood (now (t .entry)) h ⌝ }
+{
+    stores::handling_in_range(h)
+        & (t[7] == 0)
+        & bytes::zero_from(t, 16, 4)
+        & bytes::zero_from(t, 24, 40)
+}
+
+fn read_handling(t: &[u8; 64]) -> StoreRead
+    ensures { λ r. ⌜ r ≡ readHandling (now (t .entry)) ⌝ }
+{
+    let h = handling_of(t);
+    if handling_good(t, h) {
+        StoreRead::Record(Store::Handling(h))
+    } else {
+        StoreRead::OutOfRange
+    }
+}
+
+fn standing_of(t: &[u8; 64]) -> Standing
+    ensures { λ r. ⌜ r ≡ standingOf (now (t .entry)) ⌝ }
+{
+    Standing {
+        bulk: bulk_of(t),
+        k6: bytes::u16_at(t, 16),
+    }
+}
+
+fn standing_good(t: &[u8; 64], s: Standing) -> bool
+    ensures { λ r. ⌜ r ≡ standingGood (now (t .entry)) s ⌝ }
+{
+    stores::standing_in_range(s)
+        & (t[7] == 0)
+        & (t[15] == 0)
+        & bytes::zero_from(t, 18, 2)
+        & bytes::zero_from(t, 24, 40)
+}
+
+fn read_standing(t: &[u8; 64]) -> StoreRead
+    ensures { λ r. ⌜ r ≡ readStanding (now (t .entry)) ⌝ }
+{
+    let s = standing_of(t);
+    if standing_good(t, s) {
+        StoreRead::Record(Store::Standing(s))
+    } else {
+        StoreRead::OutOfRange
+    }
+}
+
+fn aspiration_of(t: &[u8; 64]) -> Aspiration
+    ensures { λ r. ⌜ r ≡ aspirationOf (now (t .entry)) ⌝ }
+{
+    Aspiration {
+        dust: t[3],
+        store: bytes::u16_at(t, 4),
+        concentration: bytes::u32_at(t, 8),
+        flow: bytes::u32_at(t, 12),
+        capture: bytes::u16_at(t, 16),
+        hours: bytes::u16_at(t, 18),
+    }
+}
+
+fn aspiration_good(t: &[u8; 64], a: Aspiration) -> bool
+    ensures { λ r. ⌜ r ≡ aspirationGood (now (t .entry)) a ⌝ }
+{
+    stores::aspiration_in_range(a) & bytes::zero_from(t, 6, 2) & bytes::zero_from(t, 20, 44)
+}
+
+fn read_aspiration(t: &[u8; 64]) -> StoreRead
+    ensures { λ r. ⌜ r ≡ readAspiration (now (t .entry)) ⌝ }
+{
+    let a = aspiration_of(t);
+    if aspiration_good(t, a) {
+        StoreRead::Record(Store::Aspiration(a))
+    } else {
+        StoreRead::OutOfRange
+    }
+}
+
+pub fn read_store(t: &[u8; 64]) -> StoreRead
+    ensures { λ r. ⌜ r ≡ readStore (now (t .entry)) ⌝ }
+{
+    let kind = t[2];
+    match kind {
+        3 => read_handling(t),
+        4 => read_standing(t),
+        5 => read_aspiration(t),
+        _ => StoreRead::WrongKind,
+    }
+}
+
+// The next index of a slot.
+pub fn next_of(t: &[u8; 64]) -> u16
+    ensures { λ r. ⌜ r ≡ nextOf (now (t .entry)) ⌝ }
+{
+    bytes::u16_at(t, 0)
+}
