@@ -22,7 +22,8 @@
 // for either type, `of` the first whole, the sum, the product of the first and the factor, and the
 // figure of the first. The totals come last. A record that is cut off is left out.
 //
-// tests/rule_cases.py writes the cases, and works out what must be printed.
+// tests/rule_cases.py writes the cases, and works out what must be printed. The run takes more steps
+// than the interpreter of `rt try` allows; compiled it takes a moment.
 mod case;
 mod fields;
 mod numbers;
