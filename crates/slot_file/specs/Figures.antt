@@ -1,0 +1,89 @@
+-- 01, "Figures": "The exact sum of a code, annual or peak, adds as fractions what the rules above give that code from each source, equal sources each with a term
+-- of their own"; "The figure is the largest whole number of its units that isn't above the exact sum plus half a unit".
+use Prim.Native.Nat.{ℕ}
+use mathlib.Core.List.{List, [], _∷_, _++_, map}
+use lib.Dec.{eqb}
+use lib.IntN.{ℤ}
+use lib.ListN.{getD, length, replicate}
+use Rattle.sums.specs.Choice.{if_then_else, listTo}
+use Rattle.sums.specs.Fraction.{Frac, whole, _⊙_, _⊞_}
+use Rattle.sums.specs.Figures.{nearest}
+use Rattle.vehicles.specs.Fields.{noCoefficients}
+use Rattle.vehicles.specs.Rules as vehicle
+use Rattle.stores.specs.Rules as store
+use Rattle.slots.specs.declared.store.Store.{Store}
+use Rattle.slots.specs.declared.store.Store.the-variants.{Handling, Standing, Aspiration}
+use Rattle.slot_file.specs.Walk.{Verdict, accepted, refused, verdict}
+use Rattle.slot_file.specs.Sources.{VehicleGroup, groupsAt, storesAt, temperaturesAt}
+
+-- what a source gives to a code
+pub record Share : Type 0 where
+  pub code : ℕ
+  pub tonnes : Frac
+  pub rate : Frac
+
+abbrev share : ℕ → Frac → Frac → Share
+share c t r = record { code = c; tonnes = t; rate = r }
+
+unfoldable pub groupShares : List ℤ → VehicleGroup → List Share
+groupShares ts v =
+    listTo 6 (λ (p : ℕ).
+    share (vehicle.codeOf (v .group .fuel) p)
+    (vehicle.annualTonnes (v .group) ts (getD (v .coefficients) p noCoefficients) (vehicle.controlOf (v .group) p))
+    (vehicle.peakGrams (v .group) (getD (v .coefficients) p noCoefficients) (vehicle.controlOf (v .group) p) (vehicle.lowestOf ts)))
+
+unfoldable pub storeShares : Store → List Share
+storeShares (Handling h) = share (store.codeOf (h .bulk .dust)) (store.bulkTonnes (store.handlingPeak h)) (store.handlingPeak h) ∷ []
+storeShares (Standing s) = share (store.codeOf (s .bulk .dust)) (store.bulkTonnes (store.standingPeak s)) (store.standingPeak s) ∷ []
+storeShares (Aspiration a) = share (store.codeOf (a .dust)) (store.aspirationTonnes (store.aspirationPeak a) (a .hours)) (store.aspirationPeak a) ∷ []
+
+unfoldable pub allShares : List ℤ → List VehicleGroup → List Store → List Share
+allShares ts [] [] = []
+allShares ts [] (r ∷ rs) = storeShares r ++ allShares ts [] rs
+allShares ts (g ∷ gs) rs = groupShares ts g ++ allShares ts gs rs
+
+-- the exact sum of the code c
+unfoldable pub exactSum : (Share → Frac) → ℕ → List Share → Frac
+exactSum f c [] = whole 0
+exactSum f c (x ∷ xs) = if_then_else (eqb (x .code) c) (f x ⊞ exactSum f c xs) (exactSum f c xs)
+
+-- "Annual: whole millionths of a tonne. Peak: whole ten-millionths of a gram per second"
+unfoldable pub annualFigure : List Share → ℕ → ℕ
+annualFigure xs c = nearest (exactSum (λ (x : Share). x .tonnes) c xs ⊙ whole 1000000)
+
+unfoldable pub peakFigure : List Share → ℕ → ℕ
+peakFigure xs c = nearest (exactSum (λ (x : Share). x .rate) c xs ⊙ whole 10000000)
+
+-- the codes in the listing's order
+abbrev pub codes : List ℕ
+codes = 152 ∷ 184 ∷ 301 ∷ 328 ∷ 330 ∷ 337 ∷ 2704 ∷ 2754 ∷ 2908 ∷ 2909 ∷ []
+
+-- a number and a slot, 0 and 0 of an accepted file; the figures by code, and how many groups and store records were summed
+pub record Answer : Type 0 where
+  pub number : ℕ
+  pub slot : ℕ
+  pub annual : List ℕ
+  pub peak : List ℕ
+  pub groups : ℕ
+  pub stores : ℕ
+
+unfoldable pub summed : List ℤ → List VehicleGroup → List Store → Answer
+summed ts gs rs = record {
+  number = 0;
+  slot = 0;
+  annual = map (annualFigure (allShares ts gs rs)) codes;
+  peak = map (peakFigure (allShares ts gs rs)) codes;
+  groups = length gs;
+  stores = length rs;
+}
+
+-- "A refusal gives its number and a slot, with every figure and count zero"
+abbrev pub refusal : ℕ → ℕ → Answer
+refusal n k = record { number = n; slot = k; annual = replicate 10 0; peak = replicate 10 0; groups = 0; stores = 0 }
+
+unfoldable pub answered : List ℕ → Verdict → Answer
+answered s (accepted gs ss) = summed (temperaturesAt s) (groupsAt s gs) (storesAt s ss)
+answered s (refused n k) = refusal n k
+
+unfoldable pub answer : List ℕ → Answer
+answer s = answered s (verdict s)

@@ -1,0 +1,58 @@
+-- What a verdict means, in words that know no walk.
+use Prim.Native.Nat.{ℕ}
+use mathlib.Core.Path.{_≡_}
+use mathlib.Core.Bool.{true, false}
+use mathlib.Core.List.{List, [], _∷_}
+use Rattle.slots.specs.Bytes.{slotOf}
+use Rattle.slots.specs.Layout.{nextOf, headerOf}
+use Rattle.slot_file.specs.Questions.{Question, headAsks, groupAsks, storeAsks, lastAsks}
+use Rattle.slot_file.specs.Walk.{Verdict, accepted, refused}
+
+-- every question is answered yes
+abbrev pub AllYes : List Question → Type 0
+AllYes [] = Unit {0}
+AllYes (q ∷ qs) = (q .answer ≡ true) × AllYes qs
+
+-- n and k are the number and the slot of the first question that is answered no
+pub data FirstNo : List Question → ℕ → ℕ → Type 0 where
+  here : (q : Question) (qs : List Question) → q .answer ≡ false → FirstNo (q ∷ qs) (q .number) (q .slot)
+  later : (q : Question) (qs : List Question) {n k : ℕ} → q .answer ≡ true → FirstNo qs n k → FirstNo (q ∷ qs) n k
+
+-- the slots of b, the last one first, are a chain of the file from the link `from` on, and it goes on at `link`
+abbrev pub Chain : List ℕ → ℕ → List ℕ → ℕ → Type 0
+Chain s from [] link = link ≡ from
+Chain s from (k ∷ b) link = (link ≡ nextOf (slotOf s k)) × (k ≡ 0 → ⊥) × Chain s from b k
+
+-- what is asked of each slot, by those before it, is answered yes
+abbrev pub Good : (List ℕ → ℕ → List Question) → List ℕ → Type 0
+Good asks [] = Unit {0}
+Good asks (k ∷ b) = AllYes (asks b k) × Good asks b
+
+pub record Reached (asks : List ℕ → ℕ → List Question) (s : List ℕ) (from : ℕ) (b : List ℕ) (link : ℕ) : Type 0 where
+  pub chain : Chain s from b link
+  pub good : Good asks b
+
+-- the groups, and after them the store records, up to a link
+abbrev pub Groups : List ℕ → List ℕ → ℕ → Type 0
+Groups s gs link = Reached (groupAsks s) s (headerOf (slotOf s 0) .groups) gs link
+
+abbrev pub Stores : List ℕ → List ℕ → List ℕ → ℕ → Type 0
+Stores s gs ss link = Reached (storeAsks s gs) s (headerOf (slotOf s 0) .stores) ss link
+
+-- an accepted file: each chain from the header's link to a zero, and every question answered yes
+pub record Accepts (s gs ss : List ℕ) : Type 0 where
+  pub head : AllYes (headAsks s)
+  pub groups : Groups s gs 0
+  pub stores : Stores s gs ss 0
+  pub last : AllYes (lastAsks s gs ss)
+
+-- a refused file: what was reached before, and the first question that is answered no
+pub data Refuses (s : List ℕ) (n k : ℕ) : Type 0 where
+  at-head : FirstNo (headAsks s) n k → Refuses s n k
+  at-group : (b : List ℕ) (g : ℕ) → AllYes (headAsks s) → Groups s b g → (g ≡ 0 → ⊥) → FirstNo (groupAsks s b g) n k → Refuses s n k
+  at-store : (gs b : List ℕ) (j : ℕ) → AllYes (headAsks s) → Groups s gs 0 → Stores s gs b j → (j ≡ 0 → ⊥) → FirstNo (storeAsks s gs b j) n k → Refuses s n k
+  at-last : (gs ss : List ℕ) → AllYes (headAsks s) → Groups s gs 0 → Stores s gs ss 0 → FirstNo (lastAsks s gs ss) n k → Refuses s n k
+
+abbrev pub Means : List ℕ → Verdict → Type 0
+Means s (accepted gs ss) = Accepts s gs ss
+Means s (refused n k) = Refuses s n k

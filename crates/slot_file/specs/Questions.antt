@@ -1,0 +1,109 @@
+-- 01, "Questions in order": each question is written once, as a value with its answer, its number and the slot of a refusal.
+use Prim.Native.Nat.{ℕ, zero, suc, _+_, _-_, _/_, _%_}
+use mathlib.Core.Bool.{Bool, true, false, _&&_, not}
+use mathlib.Core.List.{List, [], _∷_, _++_}
+use lib.Dec.{leb, ltb, eqb}
+use lib.ListN.{length}
+use Rattle.sums.specs.Choice.{if_then_else}
+use Rattle.vehicles.specs.Fields.{temperaturesInRange, allZero}
+use Rattle.slots.specs.Bytes.{byteAt, u16At, slotOf}
+use Rattle.slots.specs.Layout.{nextOf, headerOf, groupOf, groupGood, coefficientsOf, coefficientsGood, readStore, storeNumber}
+
+pub record Question : Type 0 where
+  pub answer : Bool
+  pub number : ℕ
+  pub slot : ℕ
+
+abbrev pub question : Bool → ℕ → ℕ → Question
+question t n k = record { answer = t; number = n; slot = k }
+
+-- slots of the file
+abbrev pub slotCount : List ℕ → ℕ
+slotCount s = length s / 64
+
+-- questions 1 to 5, of the file and its slot 0; "The slot is 0 for 1 to 5"
+unfoldable pub headAsks : List ℕ → List Question
+headAsks s =
+    question (leb 64 (length s) && leb (length s) 65536 && eqb (length s % 64) 0) 1 0  -- "Is the length a multiple of 64, from 64 to 65,536?"
+    ∷ question (eqb (headerOf (slotOf s 0) .format) 1) 2 0  -- "Is the format number 1?"
+    ∷ question (eqb (headerOf (slotOf s 0) .count) (slotCount s)) 3 0  -- "Does the slot count equal length / 64?"
+    ∷ question (headerOf (slotOf s 0) .rest) 4 0  -- "Are bytes 32..63 of slot 0 zero?"
+    ∷ question (temperaturesInRange (headerOf (slotOf s 0) .temperatures)) 5 0  -- "Is each temperature from -600 to 600?"
+    ∷ []
+
+-- whether k is among the slots
+unfoldable pub member : ℕ → List ℕ → Bool
+member k [] = false
+member k (x ∷ xs) = if_then_else (eqb k x) true (member k xs)
+
+-- "At each nonzero link 6, 7, 8 and 9 are asked": of a link k, which the slot `holder` holds, where `before` are the slots reached before as groups and store
+-- records, and by whether its kind and its fields are right; the refusal's slot is "the slot holding the link for 6", else "the slot asked about"
+unfoldable pub linkAsks : List ℕ → ℕ → List ℕ → ℕ → Bool → Bool → List Question
+linkAsks s holder before k kind good =
+    question (ltb k (slotCount s)) 6 holder  -- "Is the link below the slot count?"
+    ∷ question (not (member k before)) 7 k  -- "Is the slot new on this walk as a group or store record?"
+    ∷ question kind 8 k  -- "Has it a kind this chain carries?"
+    ∷ question good 9 k  -- "Is each field in range and every unnamed byte zero?"
+    ∷ []
+
+-- the coefficient slot of a group for the pollutant at place n from 0, and the slot that holds the link to it
+unfoldable pub coefficientSlot : List ℕ → ℕ → ℕ → ℕ
+coefficientSlot s g zero = u16At (slotOf s g) 34
+coefficientSlot s g (suc n) = nextOf (slotOf s (coefficientSlot s g n))
+
+unfoldable pub coefficientHolder : List ℕ → ℕ → ℕ → ℕ
+coefficientHolder s g zero = g
+coefficientHolder s g (suc n) = coefficientSlot s g n
+
+-- "its six coefficient links, each asking: nonzero (10), 6, 8, 9, pollutant in turn (10)"; "Question 7 is not asked of coefficient slots"
+unfoldable pub coefficientAsks : List ℕ → ℕ → ℕ → List Question
+coefficientAsks s g n =
+    question (not (eqb (coefficientSlot s g n) 0)) 10 (coefficientHolder s g n)
+    ∷ question (ltb (coefficientSlot s g n) (slotCount s)) 6 (coefficientHolder s g n)
+    ∷ question (eqb (byteAt (slotOf s (coefficientSlot s g n)) 2) 2) 8 (coefficientSlot s g n)
+    ∷ question (coefficientsGood (slotOf s (coefficientSlot s g n)) (coefficientsOf (slotOf s (coefficientSlot s g n)))) 9 (coefficientSlot s g n)
+    ∷ question (eqb (byteAt (slotOf s (coefficientSlot s g n)) 3) (n + 1)) 10 (coefficientSlot s g n)
+    ∷ []
+
+-- the place of the pollutant that must be zero: soot for petrol, lead for diesel
+unfoldable pub zeroPlace : List ℕ → ℕ → ℕ
+zeroPlace s g = if_then_else (eqb (groupOf (slotOf s g) .fuel) 1) 3 5
+
+-- "after the sixth, next is zero (10); then 11 for the group"
+unfoldable pub closingAsks : List ℕ → ℕ → List Question
+closingAsks s g =
+    question (eqb (coefficientSlot s g 6) 0) 10 (coefficientSlot s g 5)
+    ∷ question (allZero (coefficientsOf (slotOf s (coefficientSlot s g (zeroPlace s g))))) 11 g  -- "Is soot zero throughout for petrol, lead for diesel?"
+    ∷ []
+
+-- the last slot of a chain so far, which holds the next link; slot 0 holds the first
+abbrev pub lastOf : List ℕ → ℕ
+lastOf [] = 0
+lastOf (k ∷ b) = k
+
+-- all that is asked of a link g to a group, after the groups b, the last of them first
+unfoldable pub groupAsks : List ℕ → List ℕ → ℕ → List Question
+groupAsks s b g =
+    linkAsks s (lastOf b) b g (eqb (byteAt (slotOf s g) 2) 1) (groupGood (slotOf s g) (groupOf (slotOf s g)))
+    ++ coefficientAsks s g 0 ++ coefficientAsks s g 1 ++ coefficientAsks s g 2 ++ coefficientAsks s g 3 ++ coefficientAsks s g 4 ++ coefficientAsks s g 5
+    ++ closingAsks s g
+
+-- all that is asked of a link k to a store record, after the groups gs and the store records b
+unfoldable pub storeAsks : List ℕ → List ℕ → List ℕ → ℕ → List Question
+storeAsks s gs b k =
+    linkAsks s (lastOf b) (b ++ gs) k (not (eqb (storeNumber (readStore (slotOf s k))) 8)) (eqb (storeNumber (readStore (slotOf s k))) 0)
+
+-- every slot that the groups reach: themselves and their six coefficient slots
+unfoldable pub reachedBy : List ℕ → List ℕ → List ℕ
+reachedBy s [] = []
+reachedBy s (g ∷ b) =
+    g ∷ coefficientSlot s g 0 ∷ coefficientSlot s g 1 ∷ coefficientSlot s g 2 ∷ coefficientSlot s g 3 ∷ coefficientSlot s g 4 ∷ coefficientSlot s g 5
+    ∷ reachedBy s b
+
+-- "Is each slot from 1 up reached?": n slots from i up, so that the first that is not is "the lowest unreached"
+unfoldable pub reachAsks : ℕ → ℕ → List ℕ → List Question
+reachAsks zero i reached = []
+reachAsks (suc n) i reached = question (member i reached) 12 i ∷ reachAsks n (i + 1) reached
+
+unfoldable pub lastAsks : List ℕ → List ℕ → List ℕ → List Question
+lastAsks s gs ss = reachAsks (slotCount s - 1) 1 (ss ++ reachedBy s gs)

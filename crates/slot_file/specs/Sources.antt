@@ -1,0 +1,39 @@
+-- 01, "Figures": "A source is a group or store record on its chain". A source is a value with the fields that two alike sources share: all but the next index and
+-- the first coefficient slot, and of a group the seven coefficients for each of the six pollutants.
+use Prim.Native.Nat.{ℕ}
+use mathlib.Core.List.{List, map, reverse}
+use lib.Dec.{eqb}
+use lib.IntN.{ℤ}
+use Rattle.sums.specs.Choice.{if_then_else, listTo}
+use Rattle.vehicles.specs.declared.group.Group.{Group}
+use Rattle.vehicles.specs.declared.group.Coefficients.{Coefficients}
+use Rattle.slots.specs.Bytes.{byteAt, slotOf}
+use Rattle.slots.specs.Layout.{headerOf, groupOf, coefficientsOf, handlingOf, standingOf, aspirationOf}
+use Rattle.slots.specs.declared.store.Store.{Store}
+use Rattle.slots.specs.declared.store.Store.the-variants.{Handling, Standing, Aspiration}
+use Rattle.slot_file.specs.Questions.{coefficientSlot}
+
+pub record VehicleGroup : Type 0 where
+  pub group : Group
+  pub coefficients : List Coefficients
+
+unfoldable pub groupAt : List ℕ → ℕ → VehicleGroup
+groupAt s g = record {
+  group = groupOf (slotOf s g);
+  coefficients = listTo 6 (λ (n : ℕ). coefficientsOf (slotOf s (coefficientSlot s g n)));
+}
+
+unfoldable pub storeAt : List ℕ → ℕ → Store
+storeAt s k =
+    if_then_else (eqb (byteAt (slotOf s k) 2) 3) (Handling (handlingOf (slotOf s k)))
+    (if_then_else (eqb (byteAt (slotOf s k) 2) 4) (Standing (standingOf (slotOf s k))) (Aspiration (aspirationOf (slotOf s k))))
+
+-- in the order of the chains, which a verdict has the last first
+unfoldable pub groupsAt : List ℕ → List ℕ → List VehicleGroup
+groupsAt s gs = map (groupAt s) (reverse gs)
+
+unfoldable pub storesAt : List ℕ → List ℕ → List Store
+storesAt s ss = map (storeAt s) (reverse ss)
+
+unfoldable pub temperaturesAt : List ℕ → List ℤ
+temperaturesAt s = headerOf (slotOf s 0) .temperatures

@@ -1,0 +1,2 @@
+-- 01, "Surveyed examples".
+use Prim.Native.Nat.{ℕ}

@@ -1,0 +1,1 @@
+// A slot file: what is asked of it, and what it answers.
