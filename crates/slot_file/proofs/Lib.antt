@@ -1,1 +1,5 @@
 -- The laws that belong to no one function.
+pub mod Asking
+pub mod Marks
+pub mod Chains
+pub mod Verdicts

@@ -1,0 +1,111 @@
+-- A verdict means what the questions say, and only that verdict does. Each chain is walked by `Chains.walks`; what is asked of its slots keeps them different
+-- and below the slot count, so the walk never runs out. Assumes nothing.
+use Prim.Native.Nat.{ℕ, zero, suc, _+_, _%_, _<_, _≤_}
+use mathlib.Core.Path.{_≡_, refl, sym, ap, subst, _∙_}
+use mathlib.Core.Logic.{_↔_}
+use mathlib.Core.List.{List, [], _∷_, _++_}
+use mathlib.Core.Bool.{Bool, true, false, _&&_, not}
+use lib.ListN.{length, length-append}
+use lib.Dec.{leb, eqb}
+use native.Mathlib.Omega.{arith}
+use borrow.Author.Tests.{leb-true, ltb-true, eq-eqb, ne-eqb, not-true}
+use Rattle.sums.specs.Choice.{if_then_else}
+use Rattle.sums.proofs.Choices.{left, right, yes, no}
+use Rattle.slots.specs.Bytes.{slotOf}
+use Rattle.slots.specs.Layout.{nextOf, headerOf}
+use Rattle.slot_file.specs.Questions.{Question, slotCount, headAsks, member, linkAsks, groupAsks, storeAsks, lastAsks}
+use Rattle.slot_file.specs.Walk.{Verdict, accepted, refused, first, storeChain, groupChain, verdict}
+use Rattle.slot_file.specs.Meaning.{AllYes, FirstNo, Chain, Good, Reached, Groups, Stores, Accepts, Refuses, at-head, at-group, at-store, at-last, Means}
+use Rattle.slot_file.proofs.Asking.{first-yes, first-no, first-both}
+use Rattle.slot_file.proofs.Marks.{Different, different-short}
+use Rattle.slot_file.proofs.Chains.{Walks, walks, one-chain}
+
+-- question 1 keeps the slots to 1,024
+sized : (s : List ℕ) → AllYes (headAsks s) → slotCount s ≤ 1024
+unfolding headAsks
+sized s h =
+    let a = leb 64 (length s) in
+    let b = leb (length s) 65536 in
+    let l = leb-true (length s) 65536 (right a b (left (a && b) (eqb (length s % 64) 0) (h .0))) in
+    omega arith
+
+-- the slots of a good chain are different, and below the slot count
+groups-differ : (s b : List ℕ) (from link : ℕ) → Chain s from b link → Good (groupAsks s) b → Different (slotCount s) b
+unfolding groupAsks linkAsks
+groups-differ s [] from link c g = tt
+groups-differ s (k ∷ b) from link c g =
+    let z = c .1 in
+    (omega arith, ltb-true k (slotCount s) (g .0 .0), not-true (member k b) (g .0 .1 .0), groups-differ s b from k (c .2) (g .1))
+
+stores-differ : (s gs b : List ℕ) (from link : ℕ) → Different (slotCount s) gs → Chain s from b link → Good (storeAsks s gs) b → Different (slotCount s) (b ++ gs)
+unfolding storeAsks linkAsks
+stores-differ s gs [] from link d c g = d
+stores-differ s gs (k ∷ b) from link d c g =
+    let z = c .1 in
+    (omega arith, ltb-true k (slotCount s) (g .0 .0), not-true (member k (b ++ gs)) (g .0 .1 .0), stores-differ s gs b from k d (c .2) (g .1))
+
+-- one link of each chain, and its end
+group-turn : (s : List ℕ) (n : ℕ) (b : List ℕ) (k : ℕ) → (k ≡ 0 → ⊥) → groupChain (suc n) s b k ≡ first (groupAsks s b k) (groupChain n s (k ∷ b) (nextOf (slotOf s k)))
+unfolding groupChain if_then_else
+group-turn s n b k z = simp (ne-eqb k 0 z)
+
+group-stop : (s : List ℕ) (n : ℕ) (b : List ℕ) → groupChain (suc n) s b 0 ≡ storeChain 1024 s b [] (headerOf (slotOf s 0) .stores)
+unfolding groupChain if_then_else
+group-stop s n b = refl
+
+store-turn : (s gs : List ℕ) (n : ℕ) (b : List ℕ) (k : ℕ) → (k ≡ 0 → ⊥) → storeChain (suc n) s gs b k ≡ first (storeAsks s gs b k) (storeChain n s gs (k ∷ b) (nextOf (slotOf s k)))
+unfolding storeChain if_then_else
+store-turn s gs n b k z = simp (ne-eqb k 0 z)
+
+store-stop : (s gs : List ℕ) (n : ℕ) (b : List ℕ) → storeChain (suc n) s gs b 0 ≡ first (lastAsks s gs b) (accepted gs b)
+unfolding storeChain if_then_else
+store-stop s gs n b = refl
+
+module _ (s : List ℕ) (h : AllYes (headAsks s)) where
+  group-walk : Walks (groupAsks s) s (headerOf (slotOf s 0) .groups) (groupChain 1024 s [] (headerOf (slotOf s 0) .groups)) (λ gs. storeChain 1024 s gs [] (headerOf (slotOf s 0) .stores))
+  group-walk =
+      walks (groupAsks s) s (headerOf (slotOf s 0) .groups) (λ n b k. groupChain n s b k) (λ gs. storeChain 1024 s gs [] (headerOf (slotOf s 0) .stores)) (group-turn s) (group-stop s)
+      (λ b link w. different-short (slotCount s) b (sized s h) (groups-differ s b _ link (w .chain) (w .good)))
+
+  store-walk : (gs : List ℕ) → Groups s gs 0
+      → Walks (storeAsks s gs) s (headerOf (slotOf s 0) .stores) (storeChain 1024 s gs [] (headerOf (slotOf s 0) .stores)) (λ ss. first (lastAsks s gs ss) (accepted gs ss))
+  store-walk gs v =
+      walks (storeAsks s gs) s (headerOf (slotOf s 0) .stores) (λ n b k. storeChain n s gs b k) (λ ss. first (lastAsks s gs ss) (accepted gs ss)) (store-turn s gs) (store-stop s gs)
+      (λ b link w.
+      let d = different-short (slotCount s) (b ++ gs) (sized s h) (stores-differ s gs b _ link (groups-differ s gs _ 0 (v .chain) (v .good)) (w .chain) (w .good)) in
+      omega (arith, length-append b gs))
+
+  headed : verdict s ≡ groupChain 1024 s [] (headerOf (slotOf s 0) .groups)
+  unfolding verdict
+  headed = first-yes (headAsks s) (groupChain 1024 s [] (headerOf (slotOf s 0) .groups)) h
+
+-- the verdict means what the questions say
+pub says : (s : List ℕ) → Means s (verdict s)
+unfolding verdict
+says s =
+    first-both (Means s) (headAsks s) (groupChain 1024 s [] (headerOf (slotOf s 0) .groups)) (λ n k f. at-head f) (λ h.
+    group-walk s h .both (Means s) (λ b k w z n j f. at-group b k h w z f) (λ gs v.
+    store-walk s h gs v .both (Means s) (λ b k w z n j f. at-store gs b k h v w z f) (λ ss w.
+    first-both (Means s) (lastAsks s gs ss) (accepted gs ss) (λ n k f. at-last gs ss h v w f) (λ a.
+    record { head = h; groups = v; stores = w; last = a }))))
+
+-- and only this verdict does
+pub only : (s : List ℕ) (v : Verdict) → Means s v → verdict s ≡ v
+unfolding verdict
+only s (refused n k) (at-head f) = first-no (headAsks s) _ n k f
+only s (refused n k) (at-group b g h w z f) = headed s h ∙ group-walk s h .at-no b g w z n k f
+only s (refused n k) (at-store gs b j h v w z f) = headed s h ∙ group-walk s h .at-end gs v ∙ store-walk s h gs v .at-no b j w z n k f
+only s (refused n k) (at-last gs ss h v w f) =
+    headed s h ∙ group-walk s h .at-end gs v ∙ store-walk s h gs v .at-end ss w ∙ first-no (lastAsks s gs ss) (accepted gs ss) n k f
+only s (accepted gs ss) a =
+    headed s (a .head) ∙ group-walk s (a .head) .at-end gs (a .groups) ∙ store-walk s (a .head) gs (a .groups) .at-end ss (a .stores)
+    ∙ first-yes (lastAsks s gs ss) (accepted gs ss) (a .last)
+
+-- ACCEPTED EXACTLY WHEN every question is answered yes, and refused exactly by the first that is answered no
+pub exactly-when : (s : List ℕ) (v : Verdict) → (verdict s ≡ v) ↔ Means s v
+exactly-when s v = (λ e. subst (Means s) e (says s), only s v)
+
+-- the chains of an accepted file are its only ones
+pub one-way : (s gs ss hs rs : List ℕ) → Accepts s gs ss → Accepts s hs rs → (gs ≡ hs) × (ss ≡ rs)
+one-way s gs ss hs rs a b =
+    (one-chain s (headerOf (slotOf s 0) .groups) gs hs (a .groups .chain) (b .groups .chain), one-chain s (headerOf (slotOf s 0) .stores) ss rs (a .stores .chain) (b .stores .chain))
