@@ -13,7 +13,7 @@ use Rattle.slots.specs.Bytes.{slotOf}
 use Rattle.slots.specs.Layout.{nextOf}
 use Rattle.slot_file.specs.Questions.{Question}
 use Rattle.slot_file.specs.Walk.{Verdict, refused, first}
-use Rattle.slot_file.specs.Meaning.{AllYes, FirstNo, Chain, Good, Reached}
+use Rattle.slot_file.specs.Meaning.{FirstNo, Chain, Reached}
 use Rattle.slot_file.proofs.Asking.{first-yes, first-no, first-both}
 
 -- ---- a chain that ends is the only one

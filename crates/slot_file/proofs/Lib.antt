@@ -3,3 +3,5 @@ pub mod Asking
 pub mod Marks
 pub mod Chains
 pub mod Verdicts
+pub mod Unreached
+pub mod Examples

@@ -1,21 +1,21 @@
 -- A verdict means what the questions say, and only that verdict does. Each chain is walked by `Chains.walks`; what is asked of its slots keeps them different
 -- and below the slot count, so the walk never runs out. Assumes nothing.
-use Prim.Native.Nat.{ℕ, zero, suc, _+_, _%_, _<_, _≤_}
-use mathlib.Core.Path.{_≡_, refl, sym, ap, subst, _∙_}
+use Prim.Native.Nat.{ℕ, suc, _%_, _≤_}
+use mathlib.Core.Path.{_≡_, refl, subst, _∙_}
 use mathlib.Core.Logic.{_↔_}
 use mathlib.Core.List.{List, [], _∷_, _++_}
-use mathlib.Core.Bool.{Bool, true, false, _&&_, not}
+use mathlib.Core.Bool.{_&&_}
 use lib.ListN.{length, length-append}
 use lib.Dec.{leb, eqb}
 use native.Mathlib.Omega.{arith}
-use borrow.Author.Tests.{leb-true, ltb-true, eq-eqb, ne-eqb, not-true}
+use borrow.Author.Tests.{leb-true, ltb-true, ne-eqb, not-true}
 use Rattle.sums.specs.Choice.{if_then_else}
-use Rattle.sums.proofs.Choices.{left, right, yes, no}
+use Rattle.sums.proofs.Choices.{left, right}
 use Rattle.slots.specs.Bytes.{slotOf}
 use Rattle.slots.specs.Layout.{nextOf, headerOf}
-use Rattle.slot_file.specs.Questions.{Question, slotCount, headAsks, member, linkAsks, groupAsks, storeAsks, lastAsks}
+use Rattle.slot_file.specs.Questions.{slotCount, headAsks, member, linkAsks, groupAsks, storeAsks, lastAsks}
 use Rattle.slot_file.specs.Walk.{Verdict, accepted, refused, first, storeChain, groupChain, verdict}
-use Rattle.slot_file.specs.Meaning.{AllYes, FirstNo, Chain, Good, Reached, Groups, Stores, Accepts, Refuses, at-head, at-group, at-store, at-last, Means}
+use Rattle.slot_file.specs.Meaning.{AllYes, Chain, Good, Groups, Accepts, at-head, at-group, at-store, at-last, Means}
 use Rattle.slot_file.proofs.Asking.{first-yes, first-no, first-both}
 use Rattle.slot_file.proofs.Marks.{Different, different-short}
 use Rattle.slot_file.proofs.Chains.{Walks, walks, one-chain}

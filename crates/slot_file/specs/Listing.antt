@@ -3,8 +3,16 @@ use Prim.Native.Nat.{ℕ, zero, suc, _+_, _/_, _%_, _^_}
 use mathlib.Core.List.{List, [], _∷_, _++_}
 use lib.Dec.{leb, ltb, eqb}
 use lib.ListN.{getD, length, drop}
+use Prim.Native.Char.{code}
+use Prim.Native.String as string
+use Prim.Native.String.{String}
 use Rattle.sums.specs.Choice.{if_then_else}
 use Rattle.slot_file.specs.Figures.{Answer, codes, refusal}
+
+-- the bytes of a text, whose characters are all of ASCII
+unfoldable pub text : String → List ℕ
+text string.[] = []
+text (string._∷_ c t) = code c ∷ text t
 
 -- "Every number is decimal with no leading zeros": the digits of x, which has at most n + 1 of them
 unfoldable pub digits : ℕ → ℕ → List ℕ
@@ -21,34 +29,23 @@ padded (suc n) x = (48 + x / 10 ^ n % 10) ∷ padded n x
 
 -- "except one zero before the point": x units of the last of n decimals
 unfoldable pub fixed : ℕ → ℕ → List ℕ
-fixed n x = decimal (x / 10 ^ n) ++ (46 ∷ padded n x)
+fixed n x = decimal (x / 10 ^ n) ++ text "." ++ padded n x
 
 -- "codes have four digits": code, tonnes, grams per second
 unfoldable pub line : ℕ → ℕ → ℕ → List ℕ
-line c annual peak = padded 4 c ++ (32 ∷ fixed 6 annual) ++ (32 ∷ fixed 7 peak) ++ (10 ∷ [])
+line c annual peak = padded 4 c ++ text " " ++ fixed 6 annual ++ text " " ++ fixed 7 peak ++ text "\n"
 
 unfoldable pub lines : List ℕ → List ℕ → List ℕ → List ℕ
 lines [] annual peak = []
 lines (c ∷ cs) annual peak = line c (getD annual 0 0) (getD peak 0 0) ++ lines cs (drop 1 annual) (drop 1 peak)
 
--- "code t/year g/s"
-abbrev pub heading : List ℕ
-heading = 99 ∷ 111 ∷ 100 ∷ 101 ∷ 32 ∷ 116 ∷ 47 ∷ 121 ∷ 101 ∷ 97 ∷ 114 ∷ 32 ∷ 103 ∷ 47 ∷ 115 ∷ 10 ∷ []
-
--- "sources ", then groups and store records
-abbrev pub sourcesWord : List ℕ
-sourcesWord = 115 ∷ 111 ∷ 117 ∷ 114 ∷ 99 ∷ 101 ∷ 115 ∷ 32 ∷ []
-
 unfoldable pub listing : Answer → List ℕ
 listing a =
-    heading ++ lines codes (a .annual) (a .peak) ++ (sourcesWord ++ decimal (a .groups) ++ (32 ∷ decimal (a .stores)) ++ (10 ∷ []))
+    text "code t/year g/s\n" ++ lines codes (a .annual) (a .peak) ++ text "sources " ++ decimal (a .groups) ++ text " " ++ decimal (a .stores) ++ text "\n"
 
 -- "`refused`, number and slot, parted by spaces"
-abbrev pub refusedWord : List ℕ
-refusedWord = 114 ∷ 101 ∷ 102 ∷ 117 ∷ 115 ∷ 101 ∷ 100 ∷ 32 ∷ []
-
 unfoldable pub refusalLine : ℕ → ℕ → List ℕ
-refusalLine n k = refusedWord ++ decimal n ++ (32 ∷ decimal k) ++ (10 ∷ [])
+refusalLine n k = text "refused " ++ decimal n ++ text " " ++ decimal k ++ text "\n"
 
 -- what the program prints
 unfoldable pub printed : Answer → List ℕ

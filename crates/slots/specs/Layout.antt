@@ -18,7 +18,6 @@ use Rattle.slots.specs.Bytes.{byteAt, u16At, u32At, i16At, zeroFrom, num
 use Rattle.slots.specs.declared.header.Header.{Header}
 use Rattle.slots.specs.declared.group.GroupRead.{GroupRead}
 use Rattle.slots.specs.declared.coefficients.CoefficientsRead.{CoefficientsRead}
-use Rattle.slots.specs.declared.store.Store.{Store}
 use Rattle.slots.specs.declared.store.Store.the-variants as store
 use Rattle.slots.specs.declared.store.StoreRead.{StoreRead}
 use Rattle.slots.specs.declared.store.StoreRead.the-variants.{Record, WrongKind, OutOfRange}

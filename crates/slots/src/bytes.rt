@@ -1,7 +1,7 @@
 // Numbers in the 64 bytes of a slot, little-endian, and bytes that are zero.
 ghost use mathlib.Core.Path.{_≡_};
 ghost use Prim.Native.Nat.{_+_, _<_, _≤_};
-ghost use Rattle.slots.specs.Bytes.{byteAt, u16At, u32At, i16At, zeroFrom, numberOf};
+ghost use Rattle.slots.specs.Bytes.{u16At, u32At, i16At, zeroFrom, numberOf};
 
 fn wide(x: u8) -> u16
     ensures { λ r. ⌜ (r ≡ x) × (r < 256) ⌝ }

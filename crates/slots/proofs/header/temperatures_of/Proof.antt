@@ -1,6 +1,5 @@
 -- Twelve signed numbers, each read back from its bits.
 use borrow.Author.Needs.{needs}
-use mathlib.Core.Path.{refl}
 use borrow.Author.Needs.{sfits-of}
 use Rattle.sums.specs.Choice.{listTo}
 use Rattle.slots.specs.Layout.{temperaturesOf}

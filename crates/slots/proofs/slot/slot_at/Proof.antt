@@ -1,6 +1,5 @@
 -- A slot that the file has, and one that it has not.
 use borrow.Author.Needs.{needs}
-use native.Mathlib.Omega.{arith}
 use mathlib.Core.Path.{refl}
 use borrow.Author.Tests.{lt-ltb, le-ltb}
 use Rattle.sums.proofs.Choices.{yes, no}

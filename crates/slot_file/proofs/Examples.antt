@@ -1,0 +1,24 @@
+-- The surveyed examples print what 01 says: computed, from the definitions as a whole. Assumes nothing.
+use Prim.Native.Nat.{ℕ}
+use mathlib.Core.Path.{_≡_, refl}
+use mathlib.Core.List.{List, map}
+use Rattle.sums.specs.Choice.{if_then_else, allTo, listTo}
+use Rattle.sums.specs.Fraction.{totalTo}
+use Rattle.sums.specs.Figures.{nearest}
+use Rattle.sums.specs.Table.{upTo}
+use Rattle.vehicles.specs.Fields.{temperaturesInRange, distancesInRange, daysInRange, groupInRange, coefficientsInRange, allZero}
+use Rattle.vehicles.specs.Rules.{below, place, tableMinutes, minutesAt, periodAt, controlOf, runAndIdle, outGrams, inGrams, monthGrams, annualTonnes, peakGrams, lowerOf, lowestTo, codeOf}
+use Rattle.stores.specs.Fields.{bulkInRange, handlingInRange, standingInRange, aspirationInRange}
+use Rattle.stores.specs.Rules.{k6Of, handlingPeak, standingPeak, bulkTonnes, aspirationPeak, aspirationTonnes}
+use Rattle.slots.specs.Bytes.{bytesFrom, slotOf, i16At, zeroFrom}
+use Rattle.slots.specs.Layout.{temperaturesOf, headerOf, daysOf, distancesAt, groupOf, groupGood, coefficientsOf, coefficientsGood, bulkOf, handlingOf, handlingGood, readHandling, standingOf, standingGood, readStanding, aspirationOf, aspirationGood, readAspiration, readStore}
+use Rattle.slot_file.specs.Questions.{headAsks, member, linkAsks, coefficientSlot, coefficientHolder, coefficientAsks, zeroPlace, closingAsks, groupAsks, storeAsks, reachedBy, reachAsks, lastAsks}
+use Rattle.slot_file.specs.Walk.{first, storeChain, groupChain, verdict}
+use Rattle.slot_file.specs.Sources.{groupAt, storeAt, groupsAt, storesAt, temperaturesAt}
+use Rattle.slot_file.specs.Figures.{groupShares, storeShares, allShares, exactSum, annualFigure, peakFigure, summed, answered, answer}
+use Rattle.slot_file.specs.Listing.{text, digits, padded, fixed, line, lines, listing, refusalLine, printed}
+use Rattle.slot_file.specs.Surveyed.{surveyed, Row}
+
+pub as-surveyed : map (λ (r : Row). printed (answer (r .file))) surveyed ≡ map (λ (r : Row). r .prints) surveyed
+unfolding if_then_else allTo listTo totalTo nearest upTo temperaturesInRange distancesInRange daysInRange groupInRange coefficientsInRange allZero below place tableMinutes minutesAt periodAt controlOf runAndIdle outGrams inGrams monthGrams annualTonnes peakGrams lowerOf lowestTo codeOf bulkInRange handlingInRange standingInRange aspirationInRange k6Of handlingPeak standingPeak bulkTonnes aspirationPeak aspirationTonnes bytesFrom slotOf i16At zeroFrom temperaturesOf headerOf daysOf distancesAt groupOf groupGood coefficientsOf coefficientsGood bulkOf handlingOf handlingGood readHandling standingOf standingGood readStanding aspirationOf aspirationGood readAspiration readStore headAsks member linkAsks coefficientSlot coefficientHolder coefficientAsks zeroPlace closingAsks groupAsks storeAsks reachedBy reachAsks lastAsks first storeChain groupChain verdict groupAt storeAt groupsAt storesAt temperaturesAt groupShares storeShares allShares exactSum annualFigure peakFigure summed answered answer text digits padded fixed line lines listing refusalLine printed surveyed
+as-surveyed = refl
