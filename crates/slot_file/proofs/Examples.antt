@@ -1,7 +1,8 @@
 -- The surveyed examples print what 01 says: computed, from the definitions as a whole. Assumes nothing.
 use Prim.Native.Nat.{ℕ}
 use mathlib.Core.Path.{_≡_, refl}
-use mathlib.Core.List.{List, map}
+use mathlib.Core.List.{List, [], _∷_, _++_, map}
+use lib.ListN.{replicate}
 use Rattle.sums.specs.Choice.{if_then_else, allTo, listTo}
 use Rattle.sums.specs.Fraction.{totalTo}
 use Rattle.sums.specs.Figures.{nearest}
@@ -15,10 +16,23 @@ use Rattle.slots.specs.Layout.{temperaturesOf, headerOf, daysOf, distancesAt, g
 use Rattle.slot_file.specs.Questions.{headAsks, member, linkAsks, coefficientSlot, coefficientHolder, coefficientAsks, zeroPlace, closingAsks, groupAsks, storeAsks, reachedBy, reachAsks, lastAsks}
 use Rattle.slot_file.specs.Walk.{first, storeChain, groupChain, verdict}
 use Rattle.slot_file.specs.Sources.{groupAt, storeAt, groupsAt, storesAt, temperaturesAt}
-use Rattle.slot_file.specs.Figures.{groupShares, storeShares, allShares, exactSum, annualFigure, peakFigure, summed, answered, answer}
-use Rattle.slot_file.specs.Listing.{text, digits, padded, fixed, line, lines, listing, refusalLine, printed}
-use Rattle.slot_file.specs.Surveyed.{surveyed, Row}
+use Rattle.slot_file.specs.Figures.{refusal, groupShares, storeShares, allShares, exactSum, annualFigure, peakFigure, summed, answered, answer}
+use Rattle.slot_file.specs.Listing.{Listed, listed, text, digits, padded, fixed, line, lines, listing, refusalLine, printed}
+use Rattle.slot_file.specs.Surveyed.{surveyed, refusals, Row, fileOfB, listingOfB}
 
 pub as-surveyed : map (λ (r : Row). printed (answer (r .file))) surveyed ≡ map (λ (r : Row). r .prints) surveyed
-unfolding if_then_else allTo listTo totalTo nearest upTo temperaturesInRange distancesInRange daysInRange groupInRange coefficientsInRange allZero below place tableMinutes minutesAt periodAt controlOf runAndIdle outGrams inGrams monthGrams annualTonnes peakGrams lowerOf lowestTo codeOf bulkInRange handlingInRange standingInRange aspirationInRange k6Of handlingPeak standingPeak bulkTonnes aspirationPeak aspirationTonnes bytesFrom slotOf i16At zeroFrom temperaturesOf headerOf daysOf distancesAt groupOf groupGood coefficientsOf coefficientsGood bulkOf handlingOf handlingGood readHandling standingOf standingGood readStanding aspirationOf aspirationGood readAspiration readStore headAsks member linkAsks coefficientSlot coefficientHolder coefficientAsks zeroPlace closingAsks groupAsks storeAsks reachedBy reachAsks lastAsks first storeChain groupChain verdict groupAt storeAt groupsAt storesAt temperaturesAt groupShares storeShares allShares exactSum annualFigure peakFigure summed answered answer text digits padded fixed line lines listing refusalLine printed surveyed
+unfolding surveyed if_then_else allTo listTo totalTo nearest upTo temperaturesInRange distancesInRange daysInRange groupInRange coefficientsInRange allZero below place tableMinutes minutesAt periodAt controlOf runAndIdle outGrams inGrams monthGrams annualTonnes peakGrams lowerOf lowestTo codeOf bulkInRange handlingInRange standingInRange aspirationInRange k6Of handlingPeak standingPeak bulkTonnes aspirationPeak aspirationTonnes bytesFrom slotOf i16At zeroFrom temperaturesOf headerOf daysOf distancesAt groupOf groupGood coefficientsOf coefficientsGood bulkOf handlingOf handlingGood readHandling standingOf standingGood readStanding aspirationOf aspirationGood readAspiration readStore headAsks member linkAsks coefficientSlot coefficientHolder coefficientAsks zeroPlace closingAsks groupAsks storeAsks reachedBy reachAsks lastAsks first storeChain groupChain verdict groupAt storeAt groupsAt storesAt temperaturesAt groupShares storeShares allShares exactSum annualFigure peakFigure summed answered answer text digits padded fixed line lines listing refusalLine printed
 as-surveyed = refl
+
+pub as-refused : map (λ (r : Row). printed (answer (r .file))) refusals ≡ map (λ (r : Row). r .prints) refusals
+unfolding refusals if_then_else allTo listTo totalTo nearest upTo temperaturesInRange distancesInRange daysInRange groupInRange coefficientsInRange allZero below place tableMinutes minutesAt periodAt controlOf runAndIdle outGrams inGrams monthGrams annualTonnes peakGrams lowerOf lowestTo codeOf bulkInRange handlingInRange standingInRange aspirationInRange k6Of handlingPeak standingPeak bulkTonnes aspirationPeak aspirationTonnes bytesFrom slotOf i16At zeroFrom temperaturesOf headerOf daysOf distancesAt groupOf groupGood coefficientsOf coefficientsGood bulkOf handlingOf handlingGood readHandling standingOf standingGood readStanding aspirationOf aspirationGood readAspiration readStore headAsks member linkAsks coefficientSlot coefficientHolder coefficientAsks zeroPlace closingAsks groupAsks storeAsks reachedBy reachAsks lastAsks first storeChain groupChain verdict groupAt storeAt groupsAt storesAt temperaturesAt groupShares storeShares allShares exactSum annualFigure peakFigure summed answered answer text digits padded fixed line lines listing refusalLine printed
+as-refused = refl
+
+-- B's listing in a lent buffer: one byte too short, as long, and longer
+abbrev lent : ℕ → Listed
+lent n = listed (answer fileOfB) (replicate n 7)
+
+pub as-lent : (lent 267 ≡ record { answer = refusal 13 0; length = 0; buffer = replicate 267 7 }) × (lent 268 .length ≡ 268) × (lent 268 .buffer ≡ text listingOfB)
+    × (lent 270 .length ≡ 268) × (lent 270 .buffer ≡ text listingOfB ++ (7 ∷ 7 ∷ []))
+unfolding listed if_then_else allTo listTo totalTo nearest upTo temperaturesInRange distancesInRange daysInRange groupInRange coefficientsInRange allZero below place tableMinutes minutesAt periodAt controlOf runAndIdle outGrams inGrams monthGrams annualTonnes peakGrams lowerOf lowestTo codeOf bulkInRange handlingInRange standingInRange aspirationInRange k6Of handlingPeak standingPeak bulkTonnes aspirationPeak aspirationTonnes bytesFrom slotOf i16At zeroFrom temperaturesOf headerOf daysOf distancesAt groupOf groupGood coefficientsOf coefficientsGood bulkOf handlingOf handlingGood readHandling standingOf standingGood readStanding aspirationOf aspirationGood readAspiration readStore headAsks member linkAsks coefficientSlot coefficientHolder coefficientAsks zeroPlace closingAsks groupAsks storeAsks reachedBy reachAsks lastAsks first storeChain groupChain verdict groupAt storeAt groupsAt storesAt temperaturesAt groupShares storeShares allShares exactSum annualFigure peakFigure summed answered answer text digits padded fixed line lines listing refusalLine printed
+as-lent = (refl, refl, refl, refl, refl)

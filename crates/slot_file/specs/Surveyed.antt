@@ -24,21 +24,25 @@ twelve x = x ++ x ++ x ++ x ++ x ++ x ++ x ++ x ++ x ++ x ++ x ++ x
 abbrev head : ℕ → ℕ → ℕ → List ℕ → List ℕ
 head n group store t = slot (two 1 ++ two n ++ two group ++ two store ++ twelve t)
 
--- B's group in slot 1, with flags: car, petrol, N 10, N' 4, a 50, both neutraliser factors 100, idle 1 min, distances 100 and 300 both ways, 20 days a month
-abbrev group : ℕ → List ℕ
-group flags =
-    slot (two 0 ++ (1 ∷ 1 ∷ 1 ∷ flags ∷ []) ++ two 10 ++ two 4 ++ (50 ∷ 100 ∷ 100 ∷ 10 ∷ []) ++ two 100 ++ two 300 ++ two 100 ++ two 300 ++ replicate 12 20 ++ two 2)
+-- B's group, with its next index, flags and first coefficient slot: car, petrol, N 10, N' 4, a 50, both neutraliser factors 100, idle 1 min, distances 100 and 300 both ways, 20 days a month
+abbrev group : ℕ → ℕ → ℕ → List ℕ
+group next flags first =
+    slot (two next ++ (1 ∷ 1 ∷ 1 ∷ flags ∷ []) ++ two 10 ++ two 4 ++ (50 ∷ 100 ∷ 100 ∷ 10 ∷ []) ++ two 100 ++ two 300 ++ two 100 ++ two 300 ++ replicate 12 20 ++ two first)
 
 -- coefficients of a pollutant, the same in the three periods, in ten-thousandths of a gram
 abbrev coefficients : ℕ → ℕ → ℕ → ℕ → ℕ → List ℕ
 coefficients next pollutant warmup run idle =
     slot (two next ++ (2 ∷ pollutant ∷ []) ++ four warmup ++ four warmup ++ four warmup ++ four run ++ four run ++ four run ++ four idle)
 
+-- coefficients of the six pollutants in slots 2 to 7: CO, soot as given, the others zero, and the last one's next index
+abbrev pollutants : ℕ → ℕ → List ℕ
+pollutants soot last =
+    coefficients 3 1 40000 100000 20000 ++ coefficients 4 2 0 0 0 ++ coefficients 5 3 0 0 0 ++ coefficients 6 4 0 0 soot ++ coefficients 7 5 0 0 0
+    ++ coefficients last 6 0 0 0
+
 -- "Car, petrol, ... CO 4 / 10 / 2 g, others zero", at a temperature
 abbrev yard : ℕ → List ℕ → List ℕ
-yard flags t =
-    head 8 1 0 t ++ group flags ++ coefficients 3 1 40000 100000 20000 ++ coefficients 4 2 0 0 0 ++ coefficients 5 3 0 0 0 ++ coefficients 6 4 0 0 0
-    ++ coefficients 7 5 0 0 0 ++ coefficients 0 6 0 0 0
+yard flags t = head 8 1 0 t ++ group 0 flags 2 ++ pollutants 0 0
 
 -- a store record: its next index, kind and dust code, then bytes from 4 on
 abbrev store : ℕ → ℕ → ℕ → List ℕ → List ℕ
@@ -77,7 +81,7 @@ sheet c figures counts =
     ++ codeLine c 2754 "2754" (text figures) ++ codeLine c 2908 "2908" (text figures) ++ codeLine c 2909 "2909" (text figures) ++ text counts
 
 -- 01's listing of case B, letter by letter
-abbrev listingOfB : String
+abbrev pub listingOfB : String
 listingOfB = "code t/year g/s\n0152 0.000000 0.0000000\n0184 0.000000 0.0000000\n0301 0.000000 0.0000000\n0328 0.000000 0.0000000\n0330 0.000000 0.0000000\n0337 0.024000 0.0177778\n2704 0.000000 0.0000000\n2754 0.000000 0.0000000\n2908 0.000000 0.0000000\n2909 0.000000 0.0000000\nsources 1 0\n"
 
 -- a record's file, and the listing of its dust 2908
@@ -91,6 +95,9 @@ below n = two (65536 - n)
 -- B's yard at a temperature, and its line
 abbrev warmed : List ℕ → String → Row
 warmed t figures = given (yard 0 t) (sheet 337 figures "sources 1 0\n")
+
+abbrev pub fileOfB : List ℕ
+fileOfB = yard 0 (two 100)
 
 unfoldable pub surveyed : List Row
 surveyed =
@@ -114,4 +121,32 @@ surveyed =
     ∷ warmed (below 51) " 0.057600 0.0488889"  -- -5.1: 10
     ∷ warmed (below 100) " 0.057600 0.0488889"  -- -10.0: 10
     ∷ warmed (below 101) " 0.081600 0.0711111"  -- -10.1: 15
+    ∷ []
+
+-- ---- not of 01's examples: a file for each number of its table of questions, and for each way to come to it
+abbrev no : List ℕ → String → Row
+no f t = given f (text t)
+
+unfoldable pub refusals : List Row
+refusals =
+    no [] "refused 1 0\n"
+    ∷ no (replicate 65 0) "refused 1 0\n"
+    ∷ no (slot (two 2 ++ two 1)) "refused 2 0\n"
+    ∷ no (head 3 0 0 (two 0)) "refused 3 0\n"
+    ∷ no (two 1 ++ two 1 ++ replicate 59 0 ++ (1 ∷ [])) "refused 4 0\n"
+    ∷ no (head 1 0 0 (two 601)) "refused 5 0\n"
+    ∷ no (head 1 1 0 (two 0)) "refused 6 0\n"  -- at the header, which holds the link
+    ∷ no (head 2 0 1 (two 0) ++ store 2 5 2 (air 1 1 0 1)) "refused 6 1\n"
+    ∷ no (head 2 0 1 (two 0) ++ store 1 5 2 (air 1 1 0 1)) "refused 7 1\n"  -- a chain that comes back
+    ∷ no (head 8 1 1 (two 0) ++ group 0 0 2 ++ pollutants 0 0) "refused 7 1\n"  -- a group that the store chain names
+    ∷ no (head 8 1 0 (two 0) ++ group 2 0 2 ++ pollutants 0 0) "refused 8 2\n"  -- a coefficient slot that the group chain names is new
+    ∷ no (head 2 0 1 (two 0) ++ slot []) "refused 8 1\n"
+    ∷ no (head 8 1 0 (two 0) ++ group 0 4 2 ++ pollutants 0 0) "refused 9 1\n"  -- a flag of no meaning
+    ∷ no (head 2 1 0 (two 0) ++ group 0 0 0) "refused 10 1\n"  -- a zero link, at the group
+    ∷ no (head 3 1 0 (two 0) ++ group 0 0 2 ++ coefficients 0 1 0 0 0) "refused 10 2\n"  -- and at the coefficient slot that holds it
+    ∷ no (head 3 1 0 (two 0) ++ group 0 0 2 ++ coefficients 2 1 0 0 0) "refused 10 2\n"  -- a pollutant out of turn
+    ∷ no (head 3 1 0 (two 0) ++ group 0 0 3 ++ slot []) "refused 6 1\n"
+    ∷ no (head 8 1 0 (two 0) ++ group 0 0 2 ++ pollutants 0 2) "refused 10 7\n"  -- a seventh
+    ∷ no (head 8 1 0 (two 0) ++ group 0 0 2 ++ pollutants 1 0) "refused 11 1\n"
+    ∷ no (head 4 0 1 (two 0) ++ store 0 5 2 (air 1 1 0 1) ++ slot [] ++ slot []) "refused 12 2\n"  -- the lowest
     ∷ []
