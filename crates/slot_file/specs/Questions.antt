@@ -81,6 +81,13 @@ abbrev pub lastOf : List ℕ → ℕ
 lastOf [] = 0
 lastOf (k ∷ b) = k
 
+-- every slot that the groups reach: themselves and their six coefficient slots
+unfoldable pub reachedBy : List ℕ → List ℕ → List ℕ
+reachedBy s [] = []
+reachedBy s (g ∷ b) =
+    g ∷ coefficientSlot s g 0 ∷ coefficientSlot s g 1 ∷ coefficientSlot s g 2 ∷ coefficientSlot s g 3 ∷ coefficientSlot s g 4 ∷ coefficientSlot s g 5
+    ∷ reachedBy s b
+
 -- all that is asked of a link g to a group, after the groups b, the last of them first
 unfoldable pub groupAsks : List ℕ → List ℕ → ℕ → List Question
 groupAsks s b g =
@@ -92,13 +99,6 @@ groupAsks s b g =
 unfoldable pub storeAsks : List ℕ → List ℕ → List ℕ → ℕ → List Question
 storeAsks s gs b k =
     linkAsks s (lastOf b) (b ++ gs) k (not (eqb (storeNumber (readStore (slotOf s k))) 8)) (eqb (storeNumber (readStore (slotOf s k))) 0)
-
--- every slot that the groups reach: themselves and their six coefficient slots
-unfoldable pub reachedBy : List ℕ → List ℕ → List ℕ
-reachedBy s [] = []
-reachedBy s (g ∷ b) =
-    g ∷ coefficientSlot s g 0 ∷ coefficientSlot s g 1 ∷ coefficientSlot s g 2 ∷ coefficientSlot s g 3 ∷ coefficientSlot s g 4 ∷ coefficientSlot s g 5
-    ∷ reachedBy s b
 
 -- "Is each slot from 1 up reached?": n slots from i up, so that the first that is not is "the lowest unreached"
 unfoldable pub reachAsks : ℕ → ℕ → List ℕ → List Question
