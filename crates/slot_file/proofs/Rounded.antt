@@ -1,19 +1,16 @@
 -- The figures and the counts of an accepted file, in the letter's words: an exact sum is a number, since each of its terms is (`Units`), so its figure lies within
 -- half a unit of it; a list that is reversed and mapped keeps its length. Assumes nothing.
 use Prim.Native.Nat.{ℕ, zero, suc, _+_, _*_, _<_, _≤_}
-use native.Mathlib.Omega.{arith}
 use native.Mathlib.Nat.{not-suc-le-zero, le-of-suc-le-suc}
-use mathlib.Core.Path.{_≡_, refl, sym, ap, _∙_}
+use mathlib.Core.Path.{_≡_, refl, ap, _∙_}
 use mathlib.Core.List.{List, [], _∷_, map, reverse}
 use lib.Dec.{lit<}
-use lib.IntN.{ℤ}
 use lib.ListN.{getD, length, length-map, length-reverse}
-use Rattle.sums.specs.Fraction.{Frac, _over_, whole, _⊙_, _≈_, partsOf}
+use Rattle.sums.specs.Fraction.{Frac, whole, _⊙_}
 use Rattle.sums.specs.Figures.{nearest, tonneParts, gramParts}
 use Rattle.sums.proofs.Rounding.{within, half-up}
-use Rattle.slots.specs.declared.store.Store.{Store}
 use Rattle.slot_file.specs.Walk.{accepted, verdict}
-use Rattle.slot_file.specs.Sources.{VehicleGroup, groupAt, storeAt, groupsAt, storesAt, temperaturesAt}
+use Rattle.slot_file.specs.Sources.{groupAt, storeAt, groupsAt, storesAt, temperaturesAt}
 use Rattle.slot_file.specs.Figures.{Share, allShares, exactSum, annualFigure, peakFigure, codes, summed, answer}
 use Rattle.slot_file.proofs.Units.{Units, exact-parts}
 use Rattle.slot_file.proofs.Agreement.{accepted-answer}
@@ -37,20 +34,23 @@ map-at f (x ∷ l) (suc i) h = map-at f l i (le-of-suc-le-suc h)
 abbrev pub sharesOf : List ℕ → List ℕ → List ℕ → List Share
 sharesOf s gs ss = allShares (temperaturesAt s) (groupsAt s gs) (storesAt s ss)
 
-module _ (s gs ss : List ℕ) (v : verdict s ≡ accepted gs ss) where
-  -- "In every accepted file each figure equals the exact sum over all sources, the annual one over all months too, rounded once": the figures at each place, of
-  -- the code at that place
-  pub annual-within : (i : ℕ) → i < 10 → Rounded (getD (answer s .annual) i 0) (exactSum (λ (x : Share). x .tonnes) (getD codes i 0) (sharesOf s gs ss) ⊙ whole 1000000)
-  unfolding summed annualFigure
-  annual-within i h =
-      rw (accepted-answer s gs ss v, map-at (annualFigure (sharesOf s gs ss)) codes i h)
-      (rounded _ (exact-parts (λ (x : Share). x .tonnes) tonneParts (lit< tt) (λ (x : Share) (u : Units x). u .annual) (getD codes i 0) 1000000 (temperaturesAt s) (groupsAt s gs) (storesAt s ss) .left))
+-- "In every accepted file each figure equals the exact sum over all sources, the annual one over all months too, rounded once": at each place of the listing, in
+-- millionths of a tonne and ten-millionths of a gram per second, of that place's code
+pub record Figures (s gs ss : List ℕ) (i : ℕ) : Type 0 where
+  pub annual : Rounded (getD (answer s .annual) i 0) (exactSum (λ (x : Share). x .tonnes) (getD codes i 0) (sharesOf s gs ss) ⊙ whole 1000000)
+  pub peak : Rounded (getD (answer s .peak) i 0) (exactSum (λ (x : Share). x .rate) (getD codes i 0) (sharesOf s gs ss) ⊙ whole 10000000)
 
-  pub peak-within : (i : ℕ) → i < 10 → Rounded (getD (answer s .peak) i 0) (exactSum (λ (x : Share). x .rate) (getD codes i 0) (sharesOf s gs ss) ⊙ whole 10000000)
-  unfolding summed peakFigure
-  peak-within i h =
-      rw (accepted-answer s gs ss v, map-at (peakFigure (sharesOf s gs ss)) codes i h)
-      (rounded _ (exact-parts (λ (x : Share). x .rate) gramParts (lit< tt) (λ (x : Share) (u : Units x). u .peak) (getD codes i 0) 10000000 (temperaturesAt s) (groupsAt s gs) (storesAt s ss) .left))
+module _ (s gs ss : List ℕ) (v : verdict s ≡ accepted gs ss) where
+  pub figure-within : (i : ℕ) → i < 10 → Figures s gs ss i
+  unfolding summed annualFigure peakFigure
+  figure-within i h =
+      let ts = temperaturesAt s in
+      let a = exact-parts (λ (x : Share). x .tonnes) tonneParts (lit< tt) (λ (x : Share) (u : Units x). u .annual) (getD codes i 0) 1000000 ts (groupsAt s gs) (storesAt s ss) in
+      let p = exact-parts (λ (x : Share). x .rate) gramParts (lit< tt) (λ (x : Share) (u : Units x). u .peak) (getD codes i 0) 10000000 ts (groupsAt s gs) (storesAt s ss) in
+      record {
+        annual = rw (accepted-answer s gs ss v, map-at (annualFigure (sharesOf s gs ss)) codes i h) (rounded _ (a .left));
+        peak = rw (accepted-answer s gs ss v, map-at (peakFigure (sharesOf s gs ss)) codes i h) (rounded _ (p .left));
+      }
 
   -- "how many vehicle groups and store records were summed, and those are the lengths of the two chains"
   pub counts-are : (answer s .groups ≡ length gs) × (answer s .stores ≡ length ss)
