@@ -1,31 +1,31 @@
--- The surveyed examples print what 01 says: computed, from the definitions as a whole. Assumes nothing.
+-- The surveyed examples print what 01 says, or what follows from what it says: computed, from the definitions as a whole. Assumes nothing.
 use Prim.Native.Nat.{ℕ}
 use mathlib.Core.Path.{_≡_, refl}
-use mathlib.Core.List.{List, [], _∷_, _++_, map}
+use mathlib.Core.List.{[], _∷_, _++_, map}
 use lib.ListN.{replicate}
 use Rattle.sums.specs.Choice.{if_then_else, allTo, listTo}
 use Rattle.sums.specs.Fraction.{totalTo}
 use Rattle.sums.specs.Figures.{nearest}
 use Rattle.sums.specs.Table.{upTo}
 use Rattle.vehicles.specs.Fields.{temperaturesInRange, distancesInRange, daysInRange, groupInRange, coefficientsInRange, allZero}
-use Rattle.vehicles.specs.Rules.{below, place, tableMinutes, minutesAt, periodAt, controlOf, runAndIdle, outGrams, inGrams, monthGrams, annualTonnes, peakGrams, lowerOf, lowestTo, codeOf}
+use Rattle.vehicles.specs.Rules.{below, place, tableMinutes, minutesAt, periodAt, controlOf, runAndIdle, outGrams, inGrams, monthGrams, annualTonnes, peakGrams, lowerOf, lowestTo, codeOf, notZero}
 use Rattle.stores.specs.Fields.{bulkInRange, handlingInRange, standingInRange, aspirationInRange}
 use Rattle.stores.specs.Rules.{k6Of, handlingPeak, standingPeak, bulkTonnes, aspirationPeak, aspirationTonnes}
-use Rattle.slots.specs.Bytes.{bytesFrom, slotOf, i16At, zeroFrom}
-use Rattle.slots.specs.Layout.{temperaturesOf, headerOf, daysOf, distancesAt, groupOf, groupGood, coefficientsOf, coefficientsGood, bulkOf, handlingOf, handlingGood, readHandling, standingOf, standingGood, readStanding, aspirationOf, aspirationGood, readAspiration, readStore}
-use Rattle.slot_file.specs.Questions.{headAsks, member, linkAsks, coefficientSlot, coefficientHolder, coefficientAsks, zeroPlace, closingAsks, groupAsks, storeAsks, reachedBy, reachAsks, lastAsks}
-use Rattle.slot_file.specs.Walk.{first, storeChain, groupChain, verdict}
-use Rattle.slot_file.specs.Sources.{groupAt, storeAt, groupsAt, storesAt, temperaturesAt}
-use Rattle.slot_file.specs.Figures.{refusal, groupShares, storeShares, allShares, exactSum, annualFigure, peakFigure, summed, answered, answer}
+use Rattle.slots.specs.Bytes.{bytesFrom, slotOf, i16At, zeroFrom, numberOf}
+use Rattle.slots.specs.Layout.{temperaturesOf, headerOf, daysOf, distancesAt, groupOf, groupGood, groupRead, coefficientsOf, coefficientsGood, coefficientsRead, bulkOf, handlingOf, handlingGood, readHandling, standingOf, standingGood, readStanding, aspirationOf, aspirationGood, readAspiration, readStore}
+use Rattle.slot_file.specs.Sources.{coefficientSlot, groupAt, storeAt, groupsAt, storesAt, temperaturesAt}
+use Rattle.slot_file.specs.Questions.{headAsks, member, linkAsks, coefficientHolder, coefficientAsks, closingAsks, reachedBy, groupAsks, storeAsks, reachAsks, lastAsks}
+use Rattle.slot_file.specs.Walk.{first, chain, storesAfter, verdict}
+use Rattle.slot_file.specs.Figures.{refusal, groupShares, storeShares, gathered, allShares, exactSum, annualFigure, peakFigure, summed, answered, answer}
 use Rattle.slot_file.specs.Listing.{Listed, listed, text, digits, padded, fixed, line, lines, listing, refusalLine, printed}
-use Rattle.slot_file.specs.Surveyed.{surveyed, refusals, Row, fileOfB, listingOfB}
+use Rattle.slot_file.specs.Surveyed.{Row, surveyed, refusals, fileOfB, listingOfB}
 
 pub as-surveyed : map (λ (r : Row). printed (answer (r .file))) surveyed ≡ map (λ (r : Row). r .prints) surveyed
-unfolding surveyed if_then_else allTo listTo totalTo nearest upTo temperaturesInRange distancesInRange daysInRange groupInRange coefficientsInRange allZero below place tableMinutes minutesAt periodAt controlOf runAndIdle outGrams inGrams monthGrams annualTonnes peakGrams lowerOf lowestTo codeOf bulkInRange handlingInRange standingInRange aspirationInRange k6Of handlingPeak standingPeak bulkTonnes aspirationPeak aspirationTonnes bytesFrom slotOf i16At zeroFrom temperaturesOf headerOf daysOf distancesAt groupOf groupGood coefficientsOf coefficientsGood bulkOf handlingOf handlingGood readHandling standingOf standingGood readStanding aspirationOf aspirationGood readAspiration readStore headAsks member linkAsks coefficientSlot coefficientHolder coefficientAsks zeroPlace closingAsks groupAsks storeAsks reachedBy reachAsks lastAsks first storeChain groupChain verdict groupAt storeAt groupsAt storesAt temperaturesAt groupShares storeShares allShares exactSum annualFigure peakFigure summed answered answer text digits padded fixed line lines listing refusalLine printed
+unfolding surveyed if_then_else allTo listTo totalTo nearest upTo temperaturesInRange distancesInRange daysInRange groupInRange coefficientsInRange allZero below place tableMinutes minutesAt periodAt controlOf runAndIdle outGrams inGrams monthGrams annualTonnes peakGrams lowerOf lowestTo codeOf notZero bulkInRange handlingInRange standingInRange aspirationInRange k6Of handlingPeak standingPeak bulkTonnes aspirationPeak aspirationTonnes bytesFrom slotOf i16At zeroFrom numberOf temperaturesOf headerOf daysOf distancesAt groupOf groupGood groupRead coefficientsOf coefficientsGood coefficientsRead bulkOf handlingOf handlingGood readHandling standingOf standingGood readStanding aspirationOf aspirationGood readAspiration readStore coefficientSlot groupAt storeAt groupsAt storesAt temperaturesAt headAsks member linkAsks coefficientHolder coefficientAsks closingAsks reachedBy groupAsks storeAsks reachAsks lastAsks first chain storesAfter verdict groupShares storeShares gathered allShares exactSum annualFigure peakFigure summed answered answer text digits padded fixed line lines listing refusalLine printed
 as-surveyed = refl
 
 pub as-refused : map (λ (r : Row). printed (answer (r .file))) refusals ≡ map (λ (r : Row). r .prints) refusals
-unfolding refusals if_then_else allTo listTo totalTo nearest upTo temperaturesInRange distancesInRange daysInRange groupInRange coefficientsInRange allZero below place tableMinutes minutesAt periodAt controlOf runAndIdle outGrams inGrams monthGrams annualTonnes peakGrams lowerOf lowestTo codeOf bulkInRange handlingInRange standingInRange aspirationInRange k6Of handlingPeak standingPeak bulkTonnes aspirationPeak aspirationTonnes bytesFrom slotOf i16At zeroFrom temperaturesOf headerOf daysOf distancesAt groupOf groupGood coefficientsOf coefficientsGood bulkOf handlingOf handlingGood readHandling standingOf standingGood readStanding aspirationOf aspirationGood readAspiration readStore headAsks member linkAsks coefficientSlot coefficientHolder coefficientAsks zeroPlace closingAsks groupAsks storeAsks reachedBy reachAsks lastAsks first storeChain groupChain verdict groupAt storeAt groupsAt storesAt temperaturesAt groupShares storeShares allShares exactSum annualFigure peakFigure summed answered answer text digits padded fixed line lines listing refusalLine printed
+unfolding refusals if_then_else allTo listTo totalTo nearest upTo temperaturesInRange distancesInRange daysInRange groupInRange coefficientsInRange allZero below place tableMinutes minutesAt periodAt controlOf runAndIdle outGrams inGrams monthGrams annualTonnes peakGrams lowerOf lowestTo codeOf notZero bulkInRange handlingInRange standingInRange aspirationInRange k6Of handlingPeak standingPeak bulkTonnes aspirationPeak aspirationTonnes bytesFrom slotOf i16At zeroFrom numberOf temperaturesOf headerOf daysOf distancesAt groupOf groupGood groupRead coefficientsOf coefficientsGood coefficientsRead bulkOf handlingOf handlingGood readHandling standingOf standingGood readStanding aspirationOf aspirationGood readAspiration readStore coefficientSlot groupAt storeAt groupsAt storesAt temperaturesAt headAsks member linkAsks coefficientHolder coefficientAsks closingAsks reachedBy groupAsks storeAsks reachAsks lastAsks first chain storesAfter verdict groupShares storeShares gathered allShares exactSum annualFigure peakFigure summed answered answer text digits padded fixed line lines listing refusalLine printed
 as-refused = refl
 
 -- B's listing in a lent buffer: one byte too short, as long, and longer
@@ -34,5 +34,5 @@ lent n = listed (answer fileOfB) (replicate n 7)
 
 pub as-lent : (lent 267 ≡ record { answer = refusal 13 0; length = 0; buffer = replicate 267 7 }) × (lent 268 .length ≡ 268) × (lent 268 .buffer ≡ text listingOfB)
     × (lent 270 .length ≡ 268) × (lent 270 .buffer ≡ text listingOfB ++ (7 ∷ 7 ∷ []))
-unfolding listed if_then_else allTo listTo totalTo nearest upTo temperaturesInRange distancesInRange daysInRange groupInRange coefficientsInRange allZero below place tableMinutes minutesAt periodAt controlOf runAndIdle outGrams inGrams monthGrams annualTonnes peakGrams lowerOf lowestTo codeOf bulkInRange handlingInRange standingInRange aspirationInRange k6Of handlingPeak standingPeak bulkTonnes aspirationPeak aspirationTonnes bytesFrom slotOf i16At zeroFrom temperaturesOf headerOf daysOf distancesAt groupOf groupGood coefficientsOf coefficientsGood bulkOf handlingOf handlingGood readHandling standingOf standingGood readStanding aspirationOf aspirationGood readAspiration readStore headAsks member linkAsks coefficientSlot coefficientHolder coefficientAsks zeroPlace closingAsks groupAsks storeAsks reachedBy reachAsks lastAsks first storeChain groupChain verdict groupAt storeAt groupsAt storesAt temperaturesAt groupShares storeShares allShares exactSum annualFigure peakFigure summed answered answer text digits padded fixed line lines listing refusalLine printed
+unfolding listed if_then_else allTo listTo totalTo nearest upTo temperaturesInRange distancesInRange daysInRange groupInRange coefficientsInRange allZero below place tableMinutes minutesAt periodAt controlOf runAndIdle outGrams inGrams monthGrams annualTonnes peakGrams lowerOf lowestTo codeOf notZero bulkInRange handlingInRange standingInRange aspirationInRange k6Of handlingPeak standingPeak bulkTonnes aspirationPeak aspirationTonnes bytesFrom slotOf i16At zeroFrom numberOf temperaturesOf headerOf daysOf distancesAt groupOf groupGood groupRead coefficientsOf coefficientsGood coefficientsRead bulkOf handlingOf handlingGood readHandling standingOf standingGood readStanding aspirationOf aspirationGood readAspiration readStore coefficientSlot groupAt storeAt groupsAt storesAt temperaturesAt headAsks member linkAsks coefficientHolder coefficientAsks closingAsks reachedBy groupAsks storeAsks reachAsks lastAsks first chain storesAfter verdict groupShares storeShares gathered allShares exactSum annualFigure peakFigure summed answered answer text digits padded fixed line lines listing refusalLine printed
 as-lent = (refl, refl, refl, refl, refl)

@@ -1,6 +1,6 @@
 -- A verdict means what the questions say, and only that verdict does. Each chain is walked by `Chains.walks`; what is asked of its slots keeps them different
 -- and below the slot count, so the walk never runs out. Assumes nothing.
-use Prim.Native.Nat.{ℕ, suc, _%_, _≤_}
+use Prim.Native.Nat.{ℕ, suc, _%_, _<_, _≤_}
 use mathlib.Core.Path.{_≡_, refl, subst, _∙_}
 use mathlib.Core.Logic.{_↔_}
 use mathlib.Core.List.{List, [], _∷_, _++_}
@@ -13,9 +13,9 @@ use Rattle.sums.specs.Choice.{if_then_else}
 use Rattle.sums.proofs.Choices.{left, right}
 use Rattle.slots.specs.Bytes.{slotOf}
 use Rattle.slots.specs.Layout.{nextOf, headerOf}
-use Rattle.slot_file.specs.Questions.{slotCount, headAsks, member, linkAsks, groupAsks, storeAsks, lastAsks}
-use Rattle.slot_file.specs.Walk.{Verdict, accepted, refused, first, storeChain, groupChain, verdict}
-use Rattle.slot_file.specs.Meaning.{AllYes, Chain, Good, Groups, Accepts, at-head, at-group, at-store, at-last, Means}
+use Rattle.slot_file.specs.Questions.{Question, slotCount, headAsks, member, linkAsks, groupAsks, storeAsks, lastAsks}
+use Rattle.slot_file.specs.Walk.{Verdict, accepted, refused, first, chain, storesAfter, verdict}
+use Rattle.slot_file.specs.Meaning.{AllYes, Reached, Chain, Good, Groups, Accepts, at-head, at-group, at-store, at-last, Means}
 use Rattle.slot_file.proofs.Asking.{first-yes, first-no, first-both}
 use Rattle.slot_file.proofs.Marks.{Different, different-short}
 use Rattle.slot_file.proofs.Chains.{Walks, walks, one-chain}
@@ -44,46 +44,42 @@ stores-differ s gs (k ∷ b) from link d c g =
     let z = c .1 in
     (omega arith, ltb-true k (slotCount s) (g .0 .0), not-true (member k (b ++ gs)) (g .0 .1 .0), stores-differ s gs b from k d (c .2) (g .1))
 
--- one link of each chain, and its end
-group-turn : (s : List ℕ) (n : ℕ) (b : List ℕ) (k : ℕ) → (k ≡ 0 → ⊥) → groupChain (suc n) s b k ≡ first (groupAsks s b k) (groupChain n s (k ∷ b) (nextOf (slotOf s k)))
-unfolding groupChain if_then_else
-group-turn s n b k z = simp (ne-eqb k 0 z)
+-- one link of a chain, and its end
+module _ (asks : List ℕ → ℕ → List Question) (end : List ℕ → Verdict) (s : List ℕ) where
+  turn : (n : ℕ) (b : List ℕ) (k : ℕ) → (k ≡ 0 → ⊥) → chain asks end (suc n) s b k ≡ first (asks b k) (chain asks end n s (k ∷ b) (nextOf (slotOf s k)))
+  unfolding chain if_then_else
+  turn n b k z = simp (ne-eqb k 0 z)
 
-group-stop : (s : List ℕ) (n : ℕ) (b : List ℕ) → groupChain (suc n) s b 0 ≡ storeChain 1024 s b [] (headerOf (slotOf s 0) .stores)
-unfolding groupChain if_then_else
-group-stop s n b = refl
+  stop : (n : ℕ) (b : List ℕ) → chain asks end (suc n) s b 0 ≡ end b
+  unfolding chain if_then_else
+  stop n b = refl
 
-store-turn : (s gs : List ℕ) (n : ℕ) (b : List ℕ) (k : ℕ) → (k ≡ 0 → ⊥) → storeChain (suc n) s gs b k ≡ first (storeAsks s gs b k) (storeChain n s gs (k ∷ b) (nextOf (slotOf s k)))
-unfolding storeChain if_then_else
-store-turn s gs n b k z = simp (ne-eqb k 0 z)
-
-store-stop : (s gs : List ℕ) (n : ℕ) (b : List ℕ) → storeChain (suc n) s gs b 0 ≡ first (lastAsks s gs b) (accepted gs b)
-unfolding storeChain if_then_else
-store-stop s gs n b = refl
+  walked : (from : ℕ) → ((b : List ℕ) (link : ℕ) → Reached asks s from b link → length b < 1024) → Walks asks s from (chain asks end 1024 s [] from) end
+  walked from short = walks asks s from (λ n b k. chain asks end n s b k) end turn stop short
 
 module _ (s : List ℕ) (h : AllYes (headAsks s)) where
-  group-walk : Walks (groupAsks s) s (headerOf (slotOf s 0) .groups) (groupChain 1024 s [] (headerOf (slotOf s 0) .groups)) (λ gs. storeChain 1024 s gs [] (headerOf (slotOf s 0) .stores))
+  group-walk : Walks (groupAsks s) s (headerOf (slotOf s 0) .groups) (chain (groupAsks s) (storesAfter s) 1024 s [] (headerOf (slotOf s 0) .groups)) (storesAfter s)
   group-walk =
-      walks (groupAsks s) s (headerOf (slotOf s 0) .groups) (λ n b k. groupChain n s b k) (λ gs. storeChain 1024 s gs [] (headerOf (slotOf s 0) .stores)) (group-turn s) (group-stop s)
+      walked (groupAsks s) (storesAfter s) s (headerOf (slotOf s 0) .groups)
       (λ b link w. different-short (slotCount s) b (sized s h) (groups-differ s b _ link (w .chain) (w .good)))
 
-  store-walk : (gs : List ℕ) → Groups s gs 0
-      → Walks (storeAsks s gs) s (headerOf (slotOf s 0) .stores) (storeChain 1024 s gs [] (headerOf (slotOf s 0) .stores)) (λ ss. first (lastAsks s gs ss) (accepted gs ss))
+  store-walk : (gs : List ℕ) → Groups s gs 0 → Walks (storeAsks s gs) s (headerOf (slotOf s 0) .stores) (storesAfter s gs) (λ ss. first (lastAsks s gs ss) (accepted gs ss))
+  unfolding storesAfter
   store-walk gs v =
-      walks (storeAsks s gs) s (headerOf (slotOf s 0) .stores) (λ n b k. storeChain n s gs b k) (λ ss. first (lastAsks s gs ss) (accepted gs ss)) (store-turn s gs) (store-stop s gs)
+      walked (storeAsks s gs) (λ ss. first (lastAsks s gs ss) (accepted gs ss)) s (headerOf (slotOf s 0) .stores)
       (λ b link w.
       let d = different-short (slotCount s) (b ++ gs) (sized s h) (stores-differ s gs b _ link (groups-differ s gs _ 0 (v .chain) (v .good)) (w .chain) (w .good)) in
       omega (arith, length-append b gs))
 
-  headed : verdict s ≡ groupChain 1024 s [] (headerOf (slotOf s 0) .groups)
+  headed : verdict s ≡ chain (groupAsks s) (storesAfter s) 1024 s [] (headerOf (slotOf s 0) .groups)
   unfolding verdict
-  headed = first-yes (headAsks s) (groupChain 1024 s [] (headerOf (slotOf s 0) .groups)) h
+  headed = first-yes (headAsks s) (chain (groupAsks s) (storesAfter s) 1024 s [] (headerOf (slotOf s 0) .groups)) h
 
 -- the verdict means what the questions say
 pub says : (s : List ℕ) → Means s (verdict s)
 unfolding verdict
 says s =
-    first-both (Means s) (headAsks s) (groupChain 1024 s [] (headerOf (slotOf s 0) .groups)) (λ n k f. at-head f) (λ h.
+    first-both (Means s) (headAsks s) (chain (groupAsks s) (storesAfter s) 1024 s [] (headerOf (slotOf s 0) .groups)) (λ n k f. at-head f) (λ h.
     group-walk s h .both (Means s) (λ b k w z n j f. at-group b k h w z f) (λ gs v.
     store-walk s h gs v .both (Means s) (λ b k w z n j f. at-store gs b k h v w z f) (λ ss w.
     first-both (Means s) (lastAsks s gs ss) (accepted gs ss) (λ n k f. at-last gs ss h v w f) (λ a.

@@ -4,7 +4,7 @@ use Prim.Native.Nat.{ℕ}
 use mathlib.Core.List.{List, [], _∷_, _++_, map}
 use lib.Dec.{eqb}
 use lib.IntN.{ℤ}
-use lib.ListN.{getD, length, replicate}
+use lib.ListN.{getD, length}
 use Rattle.sums.specs.Choice.{if_then_else, listTo}
 use Rattle.sums.specs.Fraction.{Frac, whole, _⊙_, _⊞_}
 use Rattle.sums.specs.Figures.{nearest}
@@ -37,10 +37,14 @@ storeShares (Handling h) = share (store.codeOf (h .bulk .dust)) (store.bulkTonne
 storeShares (Standing s) = share (store.codeOf (s .bulk .dust)) (store.bulkTonnes (store.standingPeak s)) (store.standingPeak s) ∷ []
 storeShares (Aspiration a) = share (store.codeOf (a .dust)) (store.aspirationTonnes (store.aspirationPeak a) (a .hours)) (store.aspirationPeak a) ∷ []
 
+-- what each of a list gives, one after the other
+unfoldable pub gathered : {A : Type 0} → (A → List Share) → List A → List Share
+gathered f [] = []
+gathered f (x ∷ xs) = f x ++ gathered f xs
+
+-- "what the rules above give ... from each source, equal sources each with a term of their own"
 unfoldable pub allShares : List ℤ → List VehicleGroup → List Store → List Share
-allShares ts [] [] = []
-allShares ts [] (r ∷ rs) = storeShares r ++ allShares ts [] rs
-allShares ts (g ∷ gs) rs = groupShares ts g ++ allShares ts gs rs
+allShares ts gs rs = gathered (groupShares ts) gs ++ gathered storeShares rs
 
 -- the exact sum of the code c
 unfoldable pub exactSum : (Share → Frac) → ℕ → List Share → Frac
@@ -79,7 +83,7 @@ summed ts gs rs = record {
 
 -- "A refusal gives its number and a slot, with every figure and count zero"
 abbrev pub refusal : ℕ → ℕ → Answer
-refusal n k = record { number = n; slot = k; annual = replicate 10 0; peak = replicate 10 0; groups = 0; stores = 0 }
+refusal n k = record { number = n; slot = k; annual = map (λ (c : ℕ). 0) codes; peak = map (λ (c : ℕ). 0) codes; groups = 0; stores = 0 }
 
 unfoldable pub answered : List ℕ → Verdict → Answer
 answered s (accepted gs ss) = summed (temperaturesAt s) (groupsAt s gs) (storesAt s ss)

@@ -20,7 +20,7 @@ digits zero x = (48 + x % 10) ∷ []
 digits (suc n) x = if_then_else (ltb x 10) ((48 + x) ∷ []) (digits n (x / 10) ++ ((48 + x % 10) ∷ []))
 
 abbrev pub decimal : ℕ → List ℕ
-decimal = digits 19
+decimal x = digits x x
 
 -- the last n digits of x, zeros in front too
 unfoldable pub padded : ℕ → ℕ → List ℕ

@@ -5,9 +5,11 @@ use mathlib.Core.List.{List, [], _∷_, _++_}
 use lib.Dec.{leb, ltb, eqb}
 use lib.ListN.{length}
 use Rattle.sums.specs.Choice.{if_then_else}
-use Rattle.vehicles.specs.Fields.{temperaturesInRange, allZero}
-use Rattle.slots.specs.Bytes.{byteAt, u16At, slotOf}
-use Rattle.slots.specs.Layout.{nextOf, headerOf, groupOf, groupGood, coefficientsOf, coefficientsGood, readStore, storeNumber}
+use Rattle.vehicles.specs.Fields.{temperaturesInRange}
+use Rattle.vehicles.specs.Rules.{notZero}
+use Rattle.slots.specs.Bytes.{slotOf}
+use Rattle.slots.specs.Layout.{headerOf, groupRead, coefficientsRead, readStore, storeNumber}
+use Rattle.slot_file.specs.Sources.{coefficientSlot, groupAt}
 
 pub record Question : Type 0 where
   pub answer : Bool
@@ -36,44 +38,38 @@ unfoldable pub member : ℕ → List ℕ → Bool
 member k [] = false
 member k (x ∷ xs) = if_then_else (eqb k x) true (member k xs)
 
+-- "Has it a kind this chain carries?" and "Is each field in range and every unnamed byte zero?", of a slot k by the number that its read has
+abbrev pub readAsks : ℕ → ℕ → List Question
+readAsks number k = question (not (eqb number 8)) 8 k ∷ question (not (eqb number 9)) 9 k ∷ []
+
 -- "At each nonzero link 6, 7, 8 and 9 are asked": of a link k, which the slot `holder` holds, where `before` are the slots reached before as groups and store
--- records, and by whether its kind and its fields are right; the refusal's slot is "the slot holding the link for 6", else "the slot asked about"
-unfoldable pub linkAsks : List ℕ → ℕ → List ℕ → ℕ → Bool → Bool → List Question
-linkAsks s holder before k kind good =
+-- records; the refusal's slot is "the slot holding the link for 6", else "the slot asked about"
+unfoldable pub linkAsks : List ℕ → ℕ → List ℕ → ℕ → ℕ → List Question
+linkAsks s holder before k number =
     question (ltb k (slotCount s)) 6 holder  -- "Is the link below the slot count?"
     ∷ question (not (member k before)) 7 k  -- "Is the slot new on this walk as a group or store record?"
-    ∷ question kind 8 k  -- "Has it a kind this chain carries?"
-    ∷ question good 9 k  -- "Is each field in range and every unnamed byte zero?"
-    ∷ []
+    ∷ readAsks number k
 
--- the coefficient slot of a group for the pollutant at place n from 0, and the slot that holds the link to it
-unfoldable pub coefficientSlot : List ℕ → ℕ → ℕ → ℕ
-coefficientSlot s g zero = u16At (slotOf s g) 34
-coefficientSlot s g (suc n) = nextOf (slotOf s (coefficientSlot s g n))
-
+-- the slot that holds the link to a group's coefficient slot at place n
 unfoldable pub coefficientHolder : List ℕ → ℕ → ℕ → ℕ
 coefficientHolder s g zero = g
 coefficientHolder s g (suc n) = coefficientSlot s g n
 
--- "its six coefficient links, each asking: nonzero (10), 6, 8, 9, pollutant in turn (10)"; "Question 7 is not asked of coefficient slots"
+-- "its six coefficient links, each asking: nonzero (10), 6, 8, 9, pollutant in turn (10)"; "Question 7 is not asked of coefficient slots"; "the slot holding the
+-- link for 6 and for a zero link under 10"
 unfoldable pub coefficientAsks : List ℕ → ℕ → ℕ → List Question
 coefficientAsks s g n =
     question (not (eqb (coefficientSlot s g n) 0)) 10 (coefficientHolder s g n)
     ∷ question (ltb (coefficientSlot s g n) (slotCount s)) 6 (coefficientHolder s g n)
-    ∷ question (eqb (byteAt (slotOf s (coefficientSlot s g n)) 2) 2) 8 (coefficientSlot s g n)
-    ∷ question (coefficientsGood (slotOf s (coefficientSlot s g n)) (coefficientsOf (slotOf s (coefficientSlot s g n)))) 9 (coefficientSlot s g n)
-    ∷ question (eqb (byteAt (slotOf s (coefficientSlot s g n)) 3) (n + 1)) 10 (coefficientSlot s g n)
+    ∷ readAsks (coefficientsRead (slotOf s (coefficientSlot s g n)) .number) (coefficientSlot s g n)
+    ++ question (eqb (coefficientsRead (slotOf s (coefficientSlot s g n)) .pollutant) (n + 1)) 10 (coefficientSlot s g n)
     ∷ []
 
--- the place of the pollutant that must be zero: soot for petrol, lead for diesel
-unfoldable pub zeroPlace : List ℕ → ℕ → ℕ
-zeroPlace s g = if_then_else (eqb (groupOf (slotOf s g) .fuel) 1) 3 5
-
--- "after the sixth, next is zero (10); then 11 for the group"
+-- "after the sixth, next is zero (10); then 11 for the group": "the group for 11, the sixth coefficient slot where its next isn't zero"
 unfoldable pub closingAsks : List ℕ → ℕ → List Question
 closingAsks s g =
-    question (eqb (coefficientSlot s g 6) 0) 10 (coefficientSlot s g 5)
-    ∷ question (allZero (coefficientsOf (slotOf s (coefficientSlot s g (zeroPlace s g))))) 11 g  -- "Is soot zero throughout for petrol, lead for diesel?"
+    question (eqb (coefficientSlot s g 6) 0) 10 (coefficientSlot s g 5)  -- "Does the coefficient chain hold pollutants 1 to 6 in order, then end?"
+    ∷ question (not (notZero (groupAt s g .group) (groupAt s g .coefficients))) 11 g  -- "Is soot zero throughout for petrol, lead for diesel?"
     ∷ []
 
 -- the last slot of a chain so far, which holds the next link; slot 0 holds the first
@@ -91,14 +87,13 @@ reachedBy s (g ∷ b) =
 -- all that is asked of a link g to a group, after the groups b, the last of them first
 unfoldable pub groupAsks : List ℕ → List ℕ → ℕ → List Question
 groupAsks s b g =
-    linkAsks s (lastOf b) b g (eqb (byteAt (slotOf s g) 2) 1) (groupGood (slotOf s g) (groupOf (slotOf s g)))
+    linkAsks s (lastOf b) b g (groupRead (slotOf s g) .number)
     ++ coefficientAsks s g 0 ++ coefficientAsks s g 1 ++ coefficientAsks s g 2 ++ coefficientAsks s g 3 ++ coefficientAsks s g 4 ++ coefficientAsks s g 5
     ++ closingAsks s g
 
 -- all that is asked of a link k to a store record, after the groups gs and the store records b
 unfoldable pub storeAsks : List ℕ → List ℕ → List ℕ → ℕ → List Question
-storeAsks s gs b k =
-    linkAsks s (lastOf b) (b ++ gs) k (not (eqb (storeNumber (readStore (slotOf s k))) 8)) (eqb (storeNumber (readStore (slotOf s k))) 0)
+storeAsks s gs b k = linkAsks s (lastOf b) (b ++ gs) k (storeNumber (readStore (slotOf s k)))
 
 -- "Is each slot from 1 up reached?": n slots from i up, so that the first that is not is "the lowest unreached"
 unfoldable pub reachAsks : ℕ → ℕ → List ℕ → List Question

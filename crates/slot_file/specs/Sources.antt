@@ -1,6 +1,6 @@
 -- 01, "Figures": "A source is a group or store record on its chain". A source is a value with the fields that two alike sources share: all but the next index and
 -- the first coefficient slot, and of a group the seven coefficients for each of the six pollutants.
-use Prim.Native.Nat.{ℕ}
+use Prim.Native.Nat.{ℕ, zero, suc}
 use mathlib.Core.List.{List, map, reverse}
 use lib.Dec.{eqb}
 use lib.IntN.{ℤ}
@@ -8,21 +8,27 @@ use Rattle.sums.specs.Choice.{if_then_else, listTo}
 use Rattle.vehicles.specs.declared.group.Group.{Group}
 use Rattle.vehicles.specs.declared.group.Coefficients.{Coefficients}
 use Rattle.slots.specs.Bytes.{byteAt, slotOf}
-use Rattle.slots.specs.Layout.{headerOf, groupOf, coefficientsOf, handlingOf, standingOf, aspirationOf}
+use Rattle.slots.specs.Layout.{headerOf, groupRead, coefficientsRead, handlingOf, standingOf, aspirationOf}
 use Rattle.slots.specs.declared.store.Store.{Store}
 use Rattle.slots.specs.declared.store.Store.the-variants.{Handling, Standing, Aspiration}
-use Rattle.slot_file.specs.Questions.{coefficientSlot}
 
+-- "34..35 first coefficient slot", and the chain from there: the coefficient slot of a group for the pollutant at place n from 0
+unfoldable pub coefficientSlot : List ℕ → ℕ → ℕ → ℕ
+coefficientSlot s g zero = groupRead (slotOf s g) .first
+coefficientSlot s g (suc n) = coefficientsRead (slotOf s (coefficientSlot s g n)) .next
+
+-- a group with its own coefficients
 pub record VehicleGroup : Type 0 where
   pub group : Group
   pub coefficients : List Coefficients
 
 unfoldable pub groupAt : List ℕ → ℕ → VehicleGroup
 groupAt s g = record {
-  group = groupOf (slotOf s g);
-  coefficients = listTo 6 (λ (n : ℕ). coefficientsOf (slotOf s (coefficientSlot s g n)));
+  group = groupRead (slotOf s g) .group;
+  coefficients = listTo 6 (λ (n : ℕ). coefficientsRead (slotOf s (coefficientSlot s g n)) .coefficients);
 }
 
+-- the record of a slot that reads as one (`proofs/Records`)
 unfoldable pub storeAt : List ℕ → ℕ → Store
 storeAt s k =
     if_then_else (eqb (byteAt (slotOf s k) 2) 3) (Handling (handlingOf (slotOf s k)))

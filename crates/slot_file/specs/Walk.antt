@@ -17,18 +17,15 @@ unfoldable pub first : List Question → Verdict → Verdict
 first [] v = v
 first (q ∷ qs) v = if_then_else (q .answer) (first qs v) (refused (q .number) (q .slot))
 
--- the store chain from the link k on, after the groups gs and the store records b; "zero ends it", and then comes 12. A chain of different slots below 1,024
--- is shorter than n, which is 1,024 where the chain begins
-unfoldable pub storeChain : ℕ → List ℕ → List ℕ → List ℕ → ℕ → Verdict
-storeChain zero s gs b k = refused 7 k
-storeChain (suc n) s gs b k =
-    if_then_else (eqb k 0) (first (lastAsks s gs b) (accepted gs b)) (first (storeAsks s gs b k) (storeChain n s gs (k ∷ b) (nextOf (slotOf s k))))
+-- a chain from the link k on, after the slots b, the last first: `asks` has what is asked of a link, "zero ends it", and then comes `end`. A chain of different
+-- slots below 1,024 is shorter than n, which is 1,024 where the chain begins
+unfoldable pub chain : (List ℕ → ℕ → List Question) → (List ℕ → Verdict) → ℕ → List ℕ → List ℕ → ℕ → Verdict
+chain asks end zero s b k = refused 7 k
+chain asks end (suc n) s b k = if_then_else (eqb k 0) (end b) (first (asks b k) (chain asks end n s (k ∷ b) (nextOf (slotOf s k))))
 
--- the group chain, and after it the store chain
-unfoldable pub groupChain : ℕ → List ℕ → List ℕ → ℕ → Verdict
-groupChain zero s b k = refused 7 k
-groupChain (suc n) s b k =
-    if_then_else (eqb k 0) (storeChain 1024 s b [] (headerOf (slotOf s 0) .stores)) (first (groupAsks s b k) (groupChain n s (k ∷ b) (nextOf (slotOf s k))))
+-- after the groups gs, the store chain, and at its end question 12
+unfoldable pub storesAfter : List ℕ → List ℕ → Verdict
+storesAfter s gs = chain (storeAsks s gs) (λ (ss : List ℕ). first (lastAsks s gs ss) (accepted gs ss)) 1024 s [] (headerOf (slotOf s 0) .stores)
 
 unfoldable pub verdict : List ℕ → Verdict
-verdict s = first (headAsks s) (groupChain 1024 s [] (headerOf (slotOf s 0) .groups))
+verdict s = first (headAsks s) (chain (groupAsks s) (storesAfter s) 1024 s [] (headerOf (slotOf s 0) .groups))

@@ -37,7 +37,7 @@ standing-bounded s p =
     let r = standing s p in
     let m : standingParts s ≤ 138000000000000000 =
     le-refl 6 ⊗ exposure-most (s .bulk) ⊗ k6-scaled (s .k6) (r .k6) .most ⊗ q-scaled (s .bulk .material) .most ⊗ r .bulk .amount in
-    bounded (standing-counted s p) (omega arith) (omega arith)
+    bounded (standing-counted s) (omega arith) (omega arith)
 
 pub aspiration-bounded : (a : Aspiration) → aspirationInRange a ≡ true → Bounded (aspirationTonnes (aspirationPeak a) (a .hours)) (aspirationPeak a)
 unfolding aspirationParts

@@ -18,7 +18,7 @@ handling-exactly h p = simp p (exactly (codeOf (h .bulk .dust)) (handling-counte
 
 pub standing-exactly : (s : Standing) → standingInRange s ≡ true → Exactly (standingAnswer s .emission) (bulkTonnes (standingPeak s)) (standingPeak s)
 unfolding standingAnswer if_then_else
-standing-exactly s p = simp p (exactly (codeOf (s .bulk .dust)) (standing-counted s p) (standing-bounded s p))
+standing-exactly s p = simp p (exactly (codeOf (s .bulk .dust)) (standing-counted s) (standing-bounded s p))
 
 pub aspiration-exactly : (a : Aspiration) → aspirationInRange a ≡ true → Exactly (aspirationAnswer a .emission) (aspirationTonnes (aspirationPeak a) (a .hours)) (aspirationPeak a)
 unfolding aspirationAnswer if_then_else

@@ -2,20 +2,17 @@
 use Prim.Native.Nat.{ℕ, _*_, _-_}
 use native.Mathlib.Omega.{arith}
 use mathlib.Core.Path.{_≡_}
-use mathlib.Core.Bool.{true}
 use lib.Dec.{lit<}
 use Rattle.sums.specs.Fraction.{Frac, _over_, _≈_}
 use Rattle.sums.specs.Figures.{annualOf, peakOf}
 use Rattle.sums.proofs.Fractions.{≈-refl, ≈-⊙, ≈-per, ≈-over, parts}
 use Rattle.sums.proofs.Sources.{Counted}
-use Rattle.stores.specs.Fields.{standingInRange}
 use Rattle.stores.specs.Rules.{handlingPeak, standingPeak, bulkTonnes, aspirationPeak, aspirationTonnes, answer}
 use Rattle.stores.specs.Parts.{exposureParts, handlingParts, standingParts, aspirationParts, answerOf}
 use Rattle.stores.specs.declared.records.Handling.{Handling}
 use Rattle.stores.specs.declared.records.Standing.{Standing}
 use Rattle.stores.specs.declared.records.Aspiration.{Aspiration}
-use Rattle.stores.proofs.TableTests.{k1-scaled, k2-scaled, q-scaled, k3-scaled, k4-scaled, k5-scaled, k6-scaled, k7-scaled, drop-scaled}
-use Rattle.stores.proofs.Ranges.{standing}
+use Rattle.stores.proofs.TableTests.{k1-scaled, k2-scaled, q-scaled, k3-scaled, k4-scaled, k5-scaled, k6-same, k7-scaled, drop-scaled}
 
 handling-parts : (h : Handling) → handlingPeak h ≈ (handlingParts h over 6000000000000)
 unfolding handlingPeak handlingParts exposureParts
@@ -27,13 +24,13 @@ handling-parts h =
     (k1-scaled (b .material) .same)) (k2-scaled (b .material) .same)) (k3-scaled (b .wind) .same)) (k4-scaled (b .openness) .same))
     (k5-scaled (b .moisture) .same)) (k7-scaled (b .grain) .same)) (≈-refl (b .amount) 1000 (lit< tt))) (drop-scaled (h .drop) .same)))
 
-standing-parts : (s : Standing) → standingInRange s ≡ true → standingPeak s ≈ (standingParts s over 6000000000000)
+standing-parts : (s : Standing) → standingPeak s ≈ (standingParts s over 6000000000000)
 unfolding standingPeak standingParts exposureParts
-standing-parts s h =
+standing-parts s =
     let b = s .bulk in
     ≈-over _ _ (lit< tt) (omega arith)
     (≈-⊙ (≈-⊙ (≈-⊙ (≈-⊙ (≈-⊙ (≈-⊙ (k3-scaled (b .wind) .same)
-    (k4-scaled (b .openness) .same)) (k5-scaled (b .moisture) .same)) (k6-scaled (s .k6) (standing s h .k6) .same))
+    (k4-scaled (b .openness) .same)) (k5-scaled (b .moisture) .same)) (k6-same (s .k6)))
     (k7-scaled (b .grain) .same)) (q-scaled (b .material) .same)) (≈-refl (b .amount) 1 (lit< tt)))
 
 aspiration-parts : (a : Aspiration) → aspirationPeak a ≈ (aspirationParts a over 10000000000)
@@ -52,10 +49,8 @@ bulk-counted e = record {
 pub handling-counted : (h : Handling) → Counted (bulkTonnes (handlingPeak h)) (handlingPeak h) (handlingParts h * 36792 * 2000) (handlingParts h * 600)
 handling-counted h = bulk-counted (handling-parts h)
 
-pub standing-counted :
-    (s : Standing) → standingInRange s ≡ true
-    → Counted (bulkTonnes (standingPeak s)) (standingPeak s) (standingParts s * 36792 * 2000) (standingParts s * 600)
-standing-counted s h = bulk-counted (standing-parts s h)
+pub standing-counted : (s : Standing) → Counted (bulkTonnes (standingPeak s)) (standingPeak s) (standingParts s * 36792 * 2000) (standingParts s * 600)
+standing-counted s = bulk-counted (standing-parts s)
 
 pub aspiration-counted :
     (a : Aspiration) → Counted (aspirationTonnes (aspirationPeak a) (a .hours)) (aspirationPeak a) (aspirationParts a * a .hours * 3600 * 2000) (aspirationParts a * 600 * 600)

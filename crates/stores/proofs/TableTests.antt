@@ -1,9 +1,10 @@
 -- One computed test over each table: every entry is a whole number of parts of the code's denominator, and how many at most. K6 alone is no table.
 -- Assumes nothing.
-use Prim.Native.Nat.{ℕ, _-_, _<_, _≤_}
+use Prim.Native.Nat.{ℕ, _+_, _-_, _<_, _≤_}
+use native.Mathlib.Omega.{arith}
 use mathlib.Core.Path.{_≡_, refl}
 use lib.Dec.{eqb, lit<, lit≤}
-use Rattle.sums.specs.Fraction.{Frac, _over_, partsOf}
+use Rattle.sums.specs.Fraction.{Frac, _over_, _≈_, partsOf}
 use Rattle.sums.proofs.Choices.{both}
 use Rattle.sums.proofs.Fractions.{≈-refl, parts}
 use Rattle.sums.proofs.Tables.{Scaled, allScaled, entry, entry-up-to}
@@ -47,9 +48,16 @@ own d b n p h =
     let e = ≈-refl n d p in
     record { same = rw (parts e) e; most = rw (parts e) h }
 
-pub k6-scaled : (k : ℕ) → k ≤ 200 → Scaled 100 200 (k6Of k)
+k6-to : (b k : ℕ) → 130 ≤ b → k ≤ b → Scaled 100 b (k6Of k)
 unfolding k6Of
-k6-scaled k h = both (Scaled 100 200) (eqb k 0) (own 100 200 130 (lit< tt) (lit≤ tt)) (own 100 200 k (lit< tt) h)
+k6-to b k l h = both (Scaled 100 b) (eqb k 0) (own 100 b 130 (lit< tt) l) (own 100 b k (lit< tt) h)
+
+pub k6-scaled : (k : ℕ) → k ≤ 200 → Scaled 100 200 (k6Of k)
+k6-scaled k h = k6-to 200 k (lit≤ tt) h
+
+-- out of its range too
+pub k6-same : (k : ℕ) → k6Of k ≈ (partsOf 100 (k6Of k) over 100)
+k6-same k = k6-to (130 + k) k (omega arith) (omega arith) .same
 
 -- what a lookup promises: the table's parts, and their bound
 pub met : {d b r : ℕ} {x : Frac} → r ≡ partsOf d x → Scaled d b x → (r ≡ partsOf d x) × (r ≤ b)

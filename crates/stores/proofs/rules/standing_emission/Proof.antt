@@ -13,7 +13,7 @@ unfolding standingAnswer
 returns c =
     let s = c .before .before .before .before .before .args .s in
     let t = sym (c .before .before .before .before .standing-in-range .ensures) ∙ c .before .before .before .if1 .taken in
-    yes _ _ _ _ t (rw (c .bulk-answer .ensures, c .before .standing-parts .ensures) (summed (s .bulk .dust) (standing-counted s t)))
+    yes _ _ _ _ t (rw (c .bulk-answer .ensures, c .before .standing-parts .ensures) (summed (s .bulk .dust) (standing-counted s)))
 
 pub standing-emission-spec : {M : Type 1} → statement M
 unfolding standingAnswer

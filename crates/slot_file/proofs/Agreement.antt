@@ -1,0 +1,67 @@
+-- Demand 3: two accepted files that are alike get the same answers. A figure goes by the number of exact units of its code alone (`Units`), which is a total over
+-- the groups and one over the store records, and lists that are alike have the same totals and the same length (`Bag`, `Same`). Assumes nothing.
+use Prim.Native.Nat.{ℕ, _*_, _<_}
+use native.Mathlib.Omega.{arith}
+use mathlib.Core.Path.{_≡_, sym, ap, _∙_}
+use mathlib.Core.Bool.{true}
+use mathlib.Core.List.{List, map}
+use lib.Dec.{lit<}
+use lib.IntN.{ℤ}
+use Rattle.sums.specs.Fraction.{Frac, _over_, whole, _⊙_, _≈_, partsOf}
+use Rattle.sums.specs.Figures.{nearest, tonneParts, gramParts}
+use Rattle.sums.proofs.Figure.{nearest-same}
+use Rattle.slots.specs.declared.store.Store.{Store}
+use Rattle.slot_file.specs.Walk.{accepted, verdict}
+use Rattle.slot_file.specs.Sources.{VehicleGroup, groupsAt, storesAt, temperaturesAt}
+use Rattle.slot_file.specs.Figures.{Share, groupShares, storeShares, allShares, exactSum, annualFigure, peakFigure, codes, summed, answered, answer}
+use Rattle.slot_file.specs.Alike.{total, sameGroup, sameStore, alike}
+use Rattle.slot_file.proofs.Bag.{alike-total, alike-length}
+use Rattle.slot_file.proofs.Same.{group-sound, group-same, store-sound, store-same}
+use Rattle.slot_file.proofs.Units.{Units, total-shares, partsTo, exact-parts}
+
+module _ (ts : List ℤ) (gs hs : List VehicleGroup) (rs qs : List Store) (e : alike sameGroup gs hs ≡ true) (l : alike sameStore rs qs ≡ true) where
+  total-alike : (f : Share → ℕ) → total f (allShares ts gs rs) ≡ total f (allShares ts hs qs)
+  total-alike f =
+      omega (
+        arith,
+        total-shares ts gs rs f,
+        total-shares ts hs qs f,
+        alike-total sameGroup group-sound group-same (λ (g : VehicleGroup). total f (groupShares ts g)) gs hs e,
+        alike-total sameStore store-sound store-same (λ (r : Store). total f (storeShares r)) rs qs l,
+      )
+
+  figure-alike : (f : Share → Frac) (k : ℕ) → 0 < k → ((x : Share) → Units x → f x ≈ (partsOf k (f x) over k)) → (u c : ℕ)
+      → nearest (exactSum f c (allShares ts gs rs) ⊙ whole u) ≡ nearest (exactSum f c (allShares ts hs qs) ⊙ whole u)
+  figure-alike f k pos exact u c =
+      nearest-same (exact-parts f k pos exact c u ts gs rs)
+      ∙ ap (λ (n : ℕ). nearest ((n * u) over (k * 1))) (total-alike (partsTo f k c))
+      ∙ sym (nearest-same (exact-parts f k pos exact c u ts hs qs))
+
+  pub same-answer : summed ts gs rs ≡ summed ts hs qs
+  unfolding summed annualFigure peakFigure
+  same-answer =
+      let a = figure-alike (λ (x : Share). x .tonnes) tonneParts (lit< tt) (λ (x : Share) (h : Units x). h .annual) 1000000 in
+      let p = figure-alike (λ (x : Share). x .rate) gramParts (lit< tt) (λ (x : Share) (h : Units x). h .peak) 10000000 in
+      let n = alike-length sameGroup group-sound group-same gs hs e in
+      let m = alike-length sameStore store-sound store-same rs qs l in
+      λ i. record { number = 0; slot = 0; annual = map (λ (c : ℕ). a c i) codes; peak = map (λ (c : ℕ). p c i) codes; groups = n i; stores = m i }
+
+-- the answer to an accepted file
+pub accepted-answer : (s gs ss : List ℕ) → verdict s ≡ accepted gs ss → answer s ≡ summed (temperaturesAt s) (groupsAt s gs) (storesAt s ss)
+unfolding answer answered
+accepted-answer s gs ss e = rw e
+
+-- DEMAND 3: "Every two such files alike in the twelve temperatures, month by month, in their vehicle groups, each with its own coefficients for the six pollutants,
+-- and in their store records, repeats included, get the same answers: every annual figure, every peak figure and both counts. This holds whatever order either file
+-- has its slots and chains in, and however either shares its coefficient slots": the two accepted files are s and t, with any chains
+pub agreement :
+    (s t gs ss hs qs : List ℕ) → verdict s ≡ accepted gs ss → verdict t ≡ accepted hs qs
+    → temperaturesAt s ≡ temperaturesAt t
+    → alike sameGroup (groupsAt s gs) (groupsAt t hs) ≡ true
+    → alike sameStore (storesAt s ss) (storesAt t qs) ≡ true
+    → answer s ≡ answer t
+agreement s t gs ss hs qs v w m e l =
+    accepted-answer s gs ss v
+    ∙ ap (λ (ts : List ℤ). summed ts (groupsAt s gs) (storesAt s ss)) m
+    ∙ same-answer (temperaturesAt t) (groupsAt s gs) (groupsAt t hs) (storesAt s ss) (storesAt t qs) e l
+    ∙ sym (accepted-answer t hs qs w)

@@ -1,0 +1,62 @@
+-- The figures and the counts of an accepted file, in the letter's words: an exact sum is a number, since each of its terms is (`Units`), so its figure lies within
+-- half a unit of it; a list that is reversed and mapped keeps its length. Assumes nothing.
+use Prim.Native.Nat.{ℕ, zero, suc, _+_, _*_, _<_, _≤_}
+use native.Mathlib.Nat.{not-suc-le-zero, le-of-suc-le-suc}
+use mathlib.Core.Path.{_≡_, refl, ap, _∙_}
+use mathlib.Core.List.{List, [], _∷_, map, reverse}
+use lib.Dec.{lit<}
+use lib.ListN.{getD, length, length-map, length-reverse}
+use Rattle.sums.specs.Fraction.{Frac, whole, _⊙_}
+use Rattle.sums.specs.Figures.{nearest, tonneParts, gramParts}
+use Rattle.sums.proofs.Rounding.{within, half-up}
+use Rattle.slot_file.specs.Walk.{accepted, verdict}
+use Rattle.slot_file.specs.Sources.{groupAt, storeAt, groupsAt, storesAt, temperaturesAt}
+use Rattle.slot_file.specs.Figures.{Share, allShares, exactSum, annualFigure, peakFigure, codes, summed, answer}
+use Rattle.slot_file.proofs.Units.{Units, exact-parts}
+use Rattle.slot_file.proofs.Agreement.{accepted-answer}
+
+-- "rounded once to its last digit, so it lies within half of that digit, and an exact half goes up": the figure of x units, twice over
+pub record Rounded (figure : ℕ) (x : Frac) : Type 0 where
+  pub number : 0 < x .den
+  pub above : 2 * (figure * x .den) ≤ 2 * x .num + x .den
+  pub below : 2 * x .num < 2 * (figure * x .den) + x .den
+  pub half : (n : ℕ) → 2 * x .num + x .den ≡ 2 * (n * x .den) → figure ≡ n
+
+rounded : (x : Frac) → 0 < x .den → Rounded (nearest x) x
+rounded x p = record { number = p; above = within x p .0; below = within x p .1; half = half-up x p }
+
+map-at : (f : ℕ → ℕ) (l : List ℕ) (i : ℕ) → i < length l → getD (map f l) i 0 ≡ f (getD l i 0)
+map-at f [] i h = absurd (not-suc-le-zero h)
+map-at f (x ∷ l) zero h = refl
+map-at f (x ∷ l) (suc i) h = map-at f l i (le-of-suc-le-suc h)
+
+-- the shares of an accepted file's sources
+abbrev pub sharesOf : List ℕ → List ℕ → List ℕ → List Share
+sharesOf s gs ss = allShares (temperaturesAt s) (groupsAt s gs) (storesAt s ss)
+
+-- "In every accepted file each figure equals the exact sum over all sources, the annual one over all months too, rounded once": at each place of the listing, in
+-- millionths of a tonne and ten-millionths of a gram per second, of that place's code
+pub record Figures (s gs ss : List ℕ) (i : ℕ) : Type 0 where
+  pub annual : Rounded (getD (answer s .annual) i 0) (exactSum (λ (x : Share). x .tonnes) (getD codes i 0) (sharesOf s gs ss) ⊙ whole 1000000)
+  pub peak : Rounded (getD (answer s .peak) i 0) (exactSum (λ (x : Share). x .rate) (getD codes i 0) (sharesOf s gs ss) ⊙ whole 10000000)
+
+module _ (s gs ss : List ℕ) (v : verdict s ≡ accepted gs ss) where
+  pub figure-within : (i : ℕ) → i < 10 → Figures s gs ss i
+  unfolding summed annualFigure peakFigure
+  figure-within i h =
+      let ts = temperaturesAt s in
+      let a = exact-parts (λ (x : Share). x .tonnes) tonneParts (lit< tt) (λ (x : Share) (u : Units x). u .annual) (getD codes i 0) 1000000 ts (groupsAt s gs) (storesAt s ss) in
+      let p = exact-parts (λ (x : Share). x .rate) gramParts (lit< tt) (λ (x : Share) (u : Units x). u .peak) (getD codes i 0) 10000000 ts (groupsAt s gs) (storesAt s ss) in
+      record {
+        annual = rw (accepted-answer s gs ss v, map-at (annualFigure (sharesOf s gs ss)) codes i h) (rounded _ (a .left));
+        peak = rw (accepted-answer s gs ss v, map-at (peakFigure (sharesOf s gs ss)) codes i h) (rounded _ (p .left));
+      }
+
+  -- "how many vehicle groups and store records were summed, and those are the lengths of the two chains"
+  pub counts-are : (answer s .groups ≡ length gs) × (answer s .stores ≡ length ss)
+  unfolding summed groupsAt storesAt
+  counts-are =
+      let a = accepted-answer s gs ss v in (
+        ap (λ r. r .groups) a ∙ length-map (reverse gs) (groupAt s) ∙ length-reverse gs,
+        ap (λ r. r .stores) a ∙ length-map (reverse ss) (storeAt s) ∙ length-reverse ss,
+      )

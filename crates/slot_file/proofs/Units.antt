@@ -1,0 +1,100 @@
+-- What each source gives is a whole number of exact units, so the exact sum of a code is as many units as its terms have together, over the groups and over
+-- the store records. Assumes nothing.
+use Prim.Native.Nat.{ℕ, zero, suc, _+_, _*_, _<_}
+use native.Mathlib.Omega.{arith}
+use mathlib.Core.Path.{_≡_, refl}
+use mathlib.Core.Bool.{Bool, true, false}
+use mathlib.Core.List.{List, [], _∷_, _++_}
+use lib.Dec.{eqb, lit<}
+use lib.IntN.{ℤ}
+use lib.ListN.{getD}
+use Rattle.sums.specs.Choice.{if_then_else, listTo}
+use Rattle.sums.specs.Fraction.{Frac, _over_, whole, _⊙_, _⊞_, _≈_, partsOf}
+use Rattle.sums.specs.Figures.{tonneParts, gramParts}
+use Rattle.sums.proofs.Fractions.{≈-refl, ≈-⊙, ≈-⊞, ≈-over, parts}
+use Rattle.sums.proofs.Sources.{Counted}
+use Rattle.vehicles.specs.Fields.{noCoefficients}
+use Rattle.vehicles.proofs.Paper.{counted}
+use Rattle.stores.proofs.Paper.{handling-counted, standing-counted, aspiration-counted}
+use Rattle.slots.specs.declared.store.Store.{Store}
+use Rattle.slots.specs.declared.store.Store.the-variants.{Handling, Standing, Aspiration}
+use Rattle.slot_file.specs.Sources.{VehicleGroup}
+use Rattle.slot_file.specs.Figures.{Share, groupShares, storeShares, gathered, allShares, exactSum}
+use Rattle.slot_file.specs.Alike.{total}
+use Rattle.slot_file.proofs.Bag.{total-append}
+
+-- a share's tonnes and rate are whole numbers of exact units
+pub record Units (x : Share) : Type 0 where
+  pub annual : x .tonnes ≈ (partsOf tonneParts (x .tonnes) over tonneParts)
+  pub peak : x .rate ≈ (partsOf gramParts (x .rate) over gramParts)
+
+units : (x : Share) {a p : ℕ} → Counted (x .tonnes) (x .rate) a p → Units x
+units x e = record { annual = rw (parts (e .annual)) (e .annual); peak = rw (parts (e .peak)) (e .peak) }
+
+-- P holds of each of a list
+abbrev Each : {A : Type 0} → (A → Type 0) → List A → Type 0
+Each P [] = Unit {0}
+Each P (x ∷ xs) = P x × Each P xs
+
+module _ {A : Type 0} (P : A → Type 0) where
+  each-append : (l m : List A) → Each P l → Each P m → Each P (l ++ m)
+  each-append [] m h k = k
+  each-append (x ∷ l) m h k = (h .0, each-append l m (h .1) k)
+
+  each-listTo : (n : ℕ) (f : ℕ → A) → ((i : ℕ) → P (f i)) → Each P (listTo n f)
+  unfolding listTo
+  each-listTo zero f h = tt
+  each-listTo (suc n) f h = (h 0, each-listTo n (λ (i : ℕ). f (suc i)) (λ (i : ℕ). h (suc i)))
+
+group-units : (ts : List ℤ) (v : VehicleGroup) → Each Units (groupShares ts v)
+unfolding groupShares
+group-units ts v = each-listTo Units 6 _ (λ (p : ℕ). units _ (counted (v .group) ts (getD (v .coefficients) p noCoefficients) p))
+
+store-units : (r : Store) → Each Units (storeShares r)
+unfolding storeShares
+store-units (Handling h) = (units _ (handling-counted h), tt)
+store-units (Standing s) = (units _ (standing-counted s), tt)
+store-units (Aspiration a) = (units _ (aspiration-counted a), tt)
+
+each-gathered : {A : Type 0} (f : A → List Share) → ((x : A) → Each Units (f x)) → (l : List A) → Each Units (gathered f l)
+unfolding gathered
+each-gathered f h [] = tt
+each-gathered f h (x ∷ l) = each-append Units (f x) (gathered f l) (h x) (each-gathered f h l)
+
+total-gathered : {A : Type 0} (n : Share → ℕ) (f : A → List Share) (l : List A) → total n (gathered f l) ≡ total (λ (x : A). total n (f x)) l
+unfolding gathered
+total-gathered n f [] = refl
+total-gathered n f (x ∷ l) = omega (arith, total-append n (f x) (gathered f l), total-gathered n f l)
+
+module _ (ts : List ℤ) (gs : List VehicleGroup) (rs : List Store) where
+  all-units : Each Units (allShares ts gs rs)
+  unfolding allShares
+  all-units =
+      each-append Units (gathered (groupShares ts) gs) (gathered storeShares rs) (each-gathered (groupShares ts) (group-units ts) gs) (each-gathered storeShares store-units rs)
+
+  -- a total over all shares is one over the groups and one over the store records
+  pub total-shares : (f : Share → ℕ) →
+      total f (allShares ts gs rs) ≡ total (λ (g : VehicleGroup). total f (groupShares ts g)) gs + total (λ (r : Store). total f (storeShares r)) rs
+  unfolding allShares
+  total-shares f =
+      omega (arith, total-append f (gathered (groupShares ts) gs) (gathered storeShares rs), total-gathered f (groupShares ts) gs, total-gathered f storeShares rs)
+
+-- the parts of 1 / k that a share gives to the code c
+unfoldable pub partsTo : (Share → Frac) → ℕ → ℕ → Share → ℕ
+partsTo f k c x = if_then_else (eqb (x .code) c) (partsOf k (f x)) 0
+
+module _ (f : Share → Frac) (k : ℕ) (pos : 0 < k) (exact : (x : Share) → Units x → f x ≈ (partsOf k (f x) over k)) (c : ℕ) where
+  sum-parts : (xs : List Share) → Each Units xs → exactSum f c xs ≈ (total (partsTo f k c) xs over k)
+  unfolding exactSum partsTo if_then_else
+  sum-parts [] h = record { left = lit< tt; right = pos; cross = omega arith }
+  sum-parts (x ∷ xs) h = go (eqb (x .code) c) (sum-parts xs (h .1))
+    where
+      go : (b : Bool) → exactSum f c xs ≈ (total (partsTo f k c) xs over k)
+          → if_then_else b (f x ⊞ exactSum f c xs) (exactSum f c xs) ≈ ((if_then_else b (partsOf k (f x)) 0 + total (partsTo f k c) xs) over k)
+      go true e = ≈-⊞ (exact x (h .0)) e
+      go false e = ≈-over (0 + total (partsTo f k c) xs) k pos (omega arith) e
+
+  -- the exact sum in printed units, of which one tonne or gram per second has u
+  pub exact-parts : (u : ℕ) (ts : List ℤ) (gs : List VehicleGroup) (rs : List Store) →
+      exactSum f c (allShares ts gs rs) ⊙ whole u ≈ ((total (partsTo f k c) (allShares ts gs rs) * u) over (k * 1))
+  exact-parts u ts gs rs = ≈-⊙ (sum-parts (allShares ts gs rs) (all-units ts gs rs)) (≈-refl u 1 (lit< tt))

@@ -1,0 +1,90 @@
+-- 01, "Figures": when two sources are alike, and when two files are alike in their groups or in their store records. Sources have no next index and no first
+-- coefficient slot (`Sources`), so two that are alike are equal: each test below goes by every field.
+use Prim.Native.Nat.{ℕ, _+_}
+use mathlib.Core.Bool.{Bool, true, false, _&&_, not}
+use mathlib.Core.List.{List, [], _∷_, _++_}
+use lib.Dec.{eqb}
+use Rattle.sums.specs.Choice.{allOf}
+use Rattle.vehicles.specs.declared.units.PerMinute.{PerMinute}
+use Rattle.vehicles.specs.declared.units.PerKilometre.{PerKilometre}
+use Rattle.vehicles.specs.declared.group.Group.{Group}
+use Rattle.vehicles.specs.declared.group.Coefficients.{Coefficients}
+use Rattle.stores.specs.declared.records.Bulk.{Bulk}
+use Rattle.slots.specs.declared.store.Store.{Store}
+use Rattle.slots.specs.declared.store.Store.the-variants.{Handling, Standing, Aspiration}
+use Rattle.slot_file.specs.Sources.{VehicleGroup}
+
+abbrev pub sameBool : Bool → Bool → Bool
+sameBool true b = b
+sameBool false b = not b
+
+-- as long, and the same at each place
+unfoldable pub sameList : {A : Type 0} → (A → A → Bool) → List A → List A → Bool
+sameList same [] [] = true
+sameList same [] (y ∷ ys) = false
+sameList same (x ∷ xs) [] = false
+sameList same (x ∷ xs) (y ∷ ys) = same x y && sameList same xs ys
+
+-- a group's fields that are one number each
+abbrev pub groupNumbers : Group → List ℕ
+groupNumbers g =
+    g .category ∷ g .fuel ∷ g .vehicles ∷ g .leaving ∷ g .share ∷ g .neutraliser .running ∷ g .neutraliser .warming ∷ g .idle .0
+    ∷ g .outward .nearest .0 ∷ g .outward .farthest .0 ∷ g .inward .nearest .0 ∷ g .inward .farthest .0 ∷ []
+
+abbrev pub sameMinute : PerMinute → PerMinute → Bool
+sameMinute x y = eqb (x .0) (y .0)
+
+abbrev pub sameKilometre : PerKilometre → PerKilometre → Bool
+sameKilometre x y = eqb (x .0) (y .0)
+
+-- "the same seven coefficients": three of warm-up, three of run, and idle
+abbrev pub coefficientTests : Coefficients → Coefficients → List Bool
+coefficientTests x y = sameList sameMinute (x .warmup) (y .warmup) ∷ sameList sameKilometre (x .run) (y .run) ∷ sameMinute (x .idle) (y .idle) ∷ []
+
+unfoldable pub sameCoefficients : Coefficients → Coefficients → Bool
+sameCoefficients x y = allOf (coefficientTests x y)
+
+-- "Two sources are alike when they are of the same kind and equal in every field but the next index and the first coefficient slot; two groups must also have
+-- the same seven coefficients for each of the six pollutants"
+abbrev pub groupTests : VehicleGroup → VehicleGroup → List Bool
+groupTests x y =
+    sameList eqb (groupNumbers (x .group)) (groupNumbers (y .group)) ∷ sameBool (x .group .controlled) (y .group .controlled)
+    ∷ sameBool (x .group .heated) (y .group .heated) ∷ sameList eqb (x .group .days) (y .group .days)
+    ∷ sameList sameCoefficients (x .coefficients) (y .coefficients) ∷ []
+
+unfoldable pub sameGroup : VehicleGroup → VehicleGroup → Bool
+sameGroup x y = allOf (groupTests x y)
+
+abbrev pub bulkNumbers : Bulk → List ℕ
+bulkNumbers b = b .dust ∷ b .store ∷ b .material ∷ b .wind ∷ b .moisture ∷ b .grain ∷ b .openness ∷ b .amount ∷ []
+
+-- a store record's kind and fields
+abbrev pub storeNumbers : Store → List ℕ
+storeNumbers (Handling h) = 3 ∷ h .drop ∷ bulkNumbers (h .bulk)
+storeNumbers (Standing s) = 4 ∷ s .k6 ∷ bulkNumbers (s .bulk)
+storeNumbers (Aspiration a) = 5 ∷ a .dust ∷ a .store ∷ a .concentration ∷ a .flow ∷ a .capture ∷ a .hours ∷ []
+
+unfoldable pub sameStore : Store → Store → Bool
+sameStore x y = sameList eqb (storeNumbers x) (storeNumbers y)
+
+abbrev pub bit : Bool → ℕ
+bit true = 1
+bit false = 0
+
+-- f of each element, added up
+abbrev pub total : {A : Type 0} → (A → ℕ) → List A → ℕ
+total f [] = 0
+total f (x ∷ xs) = f x + total f xs
+
+-- how many of a list are alike to z
+abbrev pub count : {A : Type 0} → (A → A → Bool) → A → List A → ℕ
+count same z l = total (λ y. bit (same z y)) l
+
+abbrev pub all : {A : Type 0} → (A → Bool) → List A → Bool
+all p [] = true
+all p (x ∷ xs) = p x && all p xs
+
+-- "Two files are alike in their groups, or in their store records, when each one found in either file has as many alike to it in the one file as in the other,
+-- in any order"
+abbrev pub alike : {A : Type 0} → (A → A → Bool) → List A → List A → Bool
+alike same l m = all (λ z. eqb (count same z l) (count same z m)) (l ++ m)
