@@ -4,6 +4,7 @@ pub mod Marks
 pub mod Chains
 pub mod Verdicts
 pub mod Unreached
+pub mod Numbers
 pub mod Records
 pub mod Bag
 pub mod Same

@@ -1,0 +1,88 @@
+-- A refusal has a number from 1 to 12, so an answer's number is 0 exactly where the file is accepted: the numbers stand in the questions. Assumes nothing.
+use Prim.Native.Nat.{ℕ, zero, suc, _+_, _-_, _≤_}
+use native.Mathlib.Omega.{arith}
+use mathlib.Core.Path.{_≡_, sym, ap, _∙_}
+use mathlib.Core.List.{List, [], _∷_, _++_}
+use Rattle.slots.specs.Bytes.{slotOf}
+use Rattle.slots.specs.Layout.{groupRead, readStore, storeNumber}
+use Rattle.slot_file.specs.Questions.{Question, lastOf, slotCount, headAsks, linkAsks, coefficientAsks, closingAsks, groupAsks, storeAsks, reachedBy, reachAsks, lastAsks}
+use Rattle.slot_file.specs.Walk.{accepted, refused, verdict}
+use Rattle.slot_file.specs.Meaning.{FirstNo, here, later, Refuses, at-head, at-group, at-store, at-last}
+use Rattle.slot_file.specs.Figures.{refusal, answered, answer, summed}
+use Rattle.slot_file.proofs.Verdicts.{exactly-when}
+
+-- each question has a number from 1 to 12
+abbrev Numbered : List Question → Type 0
+Numbered [] = Unit {0}
+Numbered (q ∷ qs) = (1 ≤ q .number) × (q .number ≤ 12) × Numbered qs
+
+numbered-append : (l m : List Question) → Numbered l → Numbered m → Numbered (l ++ m)
+numbered-append [] m h k = k
+numbered-append (q ∷ l) m h k = (h .0, h .1, numbered-append l m (h .2) k)
+
+first-numbered : (qs : List Question) (n k : ℕ) → Numbered qs → FirstNo qs n k → (1 ≤ n) × (n ≤ 12)
+first-numbered qs n k h (here q rest e) = (h .0, h .1)
+first-numbered qs n k h (later q rest e f) = first-numbered rest n k (h .2) f
+
+head-numbered : (s : List ℕ) → Numbered (headAsks s)
+unfolding headAsks
+head-numbered s = omega arith
+
+coefficient-numbered : (s : List ℕ) (g n : ℕ) → Numbered (coefficientAsks s g n)
+unfolding coefficientAsks
+coefficient-numbered s g n = omega arith
+
+link-numbered : (s : List ℕ) (h : ℕ) (b : List ℕ) (k n : ℕ) → Numbered (linkAsks s h b k n)
+unfolding linkAsks
+link-numbered s h b k n = omega arith
+
+closing-numbered : (s : List ℕ) (g : ℕ) → Numbered (closingAsks s g)
+unfolding closingAsks
+closing-numbered s g = omega arith
+
+-- the questions l, and then those of a coefficient slot
+then-coefficient : (l : List Question) (s : List ℕ) (g n : ℕ) → Numbered l → Numbered (l ++ coefficientAsks s g n)
+then-coefficient l s g n h = numbered-append l (coefficientAsks s g n) h (coefficient-numbered s g n)
+
+group-numbered : (s b : List ℕ) (g : ℕ) → Numbered (groupAsks s b g)
+unfolding groupAsks
+group-numbered s b g =
+    let number = groupRead (slotOf s g) .number in
+    let l = linkAsks s (lastOf b) b g number in
+    let l0 = l ++ coefficientAsks s g 0 in
+    let l1 = l0 ++ coefficientAsks s g 1 in
+    let l2 = l1 ++ coefficientAsks s g 2 in
+    let l3 = l2 ++ coefficientAsks s g 3 in
+    let l4 = l3 ++ coefficientAsks s g 4 in
+    let h1 = then-coefficient l0 s g 1 (then-coefficient l s g 0 (link-numbered s (lastOf b) b g number)) in
+    let h3 = then-coefficient l2 s g 3 (then-coefficient l1 s g 2 h1) in
+    let h5 = then-coefficient l4 s g 5 (then-coefficient l3 s g 4 h3) in
+    numbered-append (l4 ++ coefficientAsks s g 5) (closingAsks s g) h5 (closing-numbered s g)
+
+store-numbered : (s gs b : List ℕ) (k : ℕ) → Numbered (storeAsks s gs b k)
+unfolding storeAsks
+store-numbered s gs b k = link-numbered s (lastOf b) (b ++ gs) k (storeNumber (readStore (slotOf s k)))
+
+reach-numbered : (n i : ℕ) (l : List ℕ) → Numbered (reachAsks n i l)
+unfolding reachAsks
+reach-numbered zero i l = tt
+reach-numbered (suc n) i l = (omega arith, omega arith, reach-numbered n (i + 1) l)
+
+last-numbered : (s gs ss : List ℕ) → Numbered (lastAsks s gs ss)
+unfolding lastAsks
+last-numbered s gs ss = reach-numbered _ _ _
+
+pub refused-number : (s : List ℕ) (n k : ℕ) → Refuses s n k → (1 ≤ n) × (n ≤ 12)
+refused-number s n k (at-head f) = first-numbered (headAsks s) n k (head-numbered s) f
+refused-number s n k (at-group b g h w z f) = first-numbered (groupAsks s b g) n k (group-numbered s b g) f
+refused-number s n k (at-store gs b j h v w z f) = first-numbered (storeAsks s gs b j) n k (store-numbered s gs b j) f
+refused-number s n k (at-last gs ss h v w f) = first-numbered (lastAsks s gs ss) n k (last-numbered s gs ss) f
+
+-- the answer of a refused file has its number, from 1 to 12, and its slot, and all else zero; of an accepted one, the number 0
+pub refused-answer : (s : List ℕ) (n k : ℕ) → verdict s ≡ refused n k → (answer s ≡ refusal n k) × (1 ≤ n) × (n ≤ 12)
+unfolding answer answered
+refused-answer s n k e = let r = refused-number s n k (exactly-when s (refused n k) .0 e) in (rw e, r .0, r .1)
+
+pub accepted-number : (s gs ss : List ℕ) → verdict s ≡ accepted gs ss → answer s .number ≡ 0
+unfolding answer answered summed
+accepted-number s gs ss e = rw e
