@@ -11,27 +11,28 @@ use Rattle.sums.specs.Fraction.{Frac, _over_, whole, _⊙_, _≈_, partsOf}
 use Rattle.sums.specs.Figures.{nearest, tonneParts, gramParts}
 use Rattle.sums.proofs.Figure.{nearest-same}
 use Rattle.slots.specs.declared.store.Store.{Store}
-use Rattle.slot_file.specs.Walk.{accepted, verdict}
+use Rattle.slot_file.specs.Questions.{accepted}
+use Rattle.slot_file.specs.Walk.{verdict}
 use Rattle.slot_file.specs.Sources.{VehicleGroup, groupsAt, storesAt, temperaturesAt}
-use Rattle.slot_file.specs.Figures.{Share, groupShares, storeShares, allShares, exactSum, annualFigure, peakFigure, codes, summed, answered, answer}
+use Rattle.slot_file.specs.Figures.{Contribution, groupContributions, storeContributions, contributions, exactSum, annualFigure, peakFigure, codes, summed, answered, answer}
 use Rattle.slot_file.specs.Alike.{total, sameGroup, sameStore, alike}
 use Rattle.slot_file.proofs.Bag.{alike-total, alike-length}
 use Rattle.slot_file.proofs.Same.{group-sound, group-same, store-sound, store-same}
-use Rattle.slot_file.proofs.Units.{Units, total-shares, partsTo, exact-parts}
+use Rattle.slot_file.proofs.Units.{Units, total-contributions, partsTo, exact-parts}
 
 module _ (ts : List ℤ) (gs hs : List VehicleGroup) (rs qs : List Store) (e : alike sameGroup gs hs ≡ true) (l : alike sameStore rs qs ≡ true) where
-  total-alike : (f : Share → ℕ) → total f (allShares ts gs rs) ≡ total f (allShares ts hs qs)
+  total-alike : (f : Contribution → ℕ) → total f (contributions ts gs rs) ≡ total f (contributions ts hs qs)
   total-alike f =
       omega (
         arith,
-        total-shares ts gs rs f,
-        total-shares ts hs qs f,
-        alike-total sameGroup group-sound group-same (λ (g : VehicleGroup). total f (groupShares ts g)) gs hs e,
-        alike-total sameStore store-sound store-same (λ (r : Store). total f (storeShares r)) rs qs l,
+        total-contributions ts gs rs f,
+        total-contributions ts hs qs f,
+        alike-total sameGroup group-sound group-same (λ (g : VehicleGroup). total f (groupContributions ts g)) gs hs e,
+        alike-total sameStore store-sound store-same (λ (r : Store). total f (storeContributions r)) rs qs l,
       )
 
-  figure-alike : (f : Share → Frac) (k : ℕ) → 0 < k → ((x : Share) → Units x → f x ≈ (partsOf k (f x) over k)) → (u c : ℕ)
-      → nearest (exactSum f c (allShares ts gs rs) ⊙ whole u) ≡ nearest (exactSum f c (allShares ts hs qs) ⊙ whole u)
+  figure-alike : (f : Contribution → Frac) (k : ℕ) → 0 < k → ((x : Contribution) → Units x → f x ≈ (partsOf k (f x) over k)) → (u c : ℕ)
+      → nearest (exactSum f c (contributions ts gs rs) ⊙ whole u) ≡ nearest (exactSum f c (contributions ts hs qs) ⊙ whole u)
   figure-alike f k pos exact u c =
       nearest-same (exact-parts f k pos exact c u ts gs rs)
       ∙ ap (λ (n : ℕ). nearest ((n * u) over (k * 1))) (total-alike (partsTo f k c))
@@ -40,8 +41,8 @@ module _ (ts : List ℤ) (gs hs : List VehicleGroup) (rs qs : List Store) (e : a
   pub same-answer : summed ts gs rs ≡ summed ts hs qs
   unfolding summed annualFigure peakFigure
   same-answer =
-      let a = figure-alike (λ (x : Share). x .tonnes) tonneParts (lit< tt) (λ (x : Share) (h : Units x). h .annual) 1000000 in
-      let p = figure-alike (λ (x : Share). x .rate) gramParts (lit< tt) (λ (x : Share) (h : Units x). h .peak) 10000000 in
+      let a = figure-alike (λ (x : Contribution). x .tonnes) tonneParts (lit< tt) (λ (x : Contribution) (h : Units x). h .annual) 1000000 in
+      let p = figure-alike (λ (x : Contribution). x .rate) gramParts (lit< tt) (λ (x : Contribution) (h : Units x). h .peak) 10000000 in
       let n = alike-length sameGroup group-sound group-same gs hs e in
       let m = alike-length sameStore store-sound store-same rs qs l in
       λ i. record { number = 0; slot = 0; annual = map (λ (c : ℕ). a c i) codes; peak = map (λ (c : ℕ). p c i) codes; groups = n i; stores = m i }

@@ -4,8 +4,8 @@ use mathlib.Core.Path.{_≡_, refl}
 use mathlib.Core.Bool.{Bool, true, false}
 use mathlib.Core.List.{List, [], _∷_}
 use Rattle.sums.specs.Choice.{if_then_else}
-use Rattle.slot_file.specs.Questions.{Question}
-use Rattle.slot_file.specs.Walk.{Verdict, refused, first}
+use Rattle.slot_file.specs.Questions.{Question, Verdict, refused}
+use Rattle.slot_file.specs.Walk.{first}
 use Rattle.slot_file.specs.Meaning.{AllYes, FirstNo, here, later}
 
 pub first-yes : (qs : List Question) (v : Verdict) → AllYes qs → first qs v ≡ v

@@ -11,8 +11,8 @@ use native.Mathlib.Decide.{decLt}
 use borrow.Author.Tests.{eqb-true, eqb-false}
 use Rattle.slots.specs.Bytes.{slotOf}
 use Rattle.slots.specs.Layout.{nextOf}
-use Rattle.slot_file.specs.Questions.{Question}
-use Rattle.slot_file.specs.Walk.{Verdict, refused, first}
+use Rattle.slot_file.specs.Questions.{Question, Verdict, refused}
+use Rattle.slot_file.specs.Walk.{first}
 use Rattle.slot_file.specs.Meaning.{FirstNo, Chain, Reached}
 use Rattle.slot_file.proofs.Asking.{first-yes, first-no, first-both}
 

@@ -5,8 +5,8 @@ use mathlib.Core.Path.{_≡_, sym, ap, _∙_}
 use mathlib.Core.List.{List, [], _∷_, _++_}
 use Rattle.slots.specs.Bytes.{slotOf}
 use Rattle.slots.specs.Layout.{groupRead, readStore, storeNumber}
-use Rattle.slot_file.specs.Questions.{Question, lastOf, slotCount, headAsks, linkAsks, coefficientAsks, closingAsks, groupAsks, storeAsks, reachedBy, reachAsks, lastAsks}
-use Rattle.slot_file.specs.Walk.{accepted, refused, verdict}
+use Rattle.slot_file.specs.Questions.{Question, lastOf, slotCount, headAsks, linkAsks, coefficientAsks, closingAsks, groupAsks, storeAsks, reachedBy, reachAsks, lastAsks, accepted, refused}
+use Rattle.slot_file.specs.Walk.{verdict}
 use Rattle.slot_file.specs.Meaning.{FirstNo, here, later, Refuses, at-head, at-group, at-store, at-last}
 use Rattle.slot_file.specs.Figures.{refusal, answered, answer, summed}
 use Rattle.slot_file.proofs.Verdicts.{exactly-when}

@@ -9,9 +9,10 @@ use lib.ListN.{getD, length, length-map, length-reverse}
 use Rattle.sums.specs.Fraction.{Frac, whole, _⊙_}
 use Rattle.sums.specs.Figures.{nearest, tonneParts, gramParts}
 use Rattle.sums.proofs.Rounding.{within, half-up}
-use Rattle.slot_file.specs.Walk.{accepted, verdict}
+use Rattle.slot_file.specs.Questions.{accepted}
+use Rattle.slot_file.specs.Walk.{verdict}
 use Rattle.slot_file.specs.Sources.{groupAt, storeAt, groupsAt, storesAt, temperaturesAt}
-use Rattle.slot_file.specs.Figures.{Share, allShares, exactSum, annualFigure, peakFigure, codes, summed, answer}
+use Rattle.slot_file.specs.Figures.{Contribution, contributions, exactSum, annualFigure, peakFigure, codes, summed, answer}
 use Rattle.slot_file.proofs.Units.{Units, exact-parts}
 use Rattle.slot_file.proofs.Agreement.{accepted-answer}
 
@@ -30,26 +31,26 @@ map-at f [] i h = absurd (not-suc-le-zero h)
 map-at f (x ∷ l) zero h = refl
 map-at f (x ∷ l) (suc i) h = map-at f l i (le-of-suc-le-suc h)
 
--- the shares of an accepted file's sources
-abbrev pub sharesOf : List ℕ → List ℕ → List ℕ → List Share
-sharesOf s gs ss = allShares (temperaturesAt s) (groupsAt s gs) (storesAt s ss)
+-- the contributions of an accepted file's sources
+abbrev pub contributionsOf : List ℕ → List ℕ → List ℕ → List Contribution
+contributionsOf s gs ss = contributions (temperaturesAt s) (groupsAt s gs) (storesAt s ss)
 
 -- "In every accepted file each figure equals the exact sum over all sources, the annual one over all months too, rounded once": at each place of the listing, in
 -- millionths of a tonne and ten-millionths of a gram per second, of that place's code
 pub record Figures (s gs ss : List ℕ) (i : ℕ) : Type 0 where
-  pub annual : Rounded (getD (answer s .annual) i 0) (exactSum (λ (x : Share). x .tonnes) (getD codes i 0) (sharesOf s gs ss) ⊙ whole 1000000)
-  pub peak : Rounded (getD (answer s .peak) i 0) (exactSum (λ (x : Share). x .rate) (getD codes i 0) (sharesOf s gs ss) ⊙ whole 10000000)
+  pub annual : Rounded (getD (answer s .annual) i 0) (exactSum (λ (x : Contribution). x .tonnes) (getD codes i 0) (contributionsOf s gs ss) ⊙ whole 1000000)
+  pub peak : Rounded (getD (answer s .peak) i 0) (exactSum (λ (x : Contribution). x .rate) (getD codes i 0) (contributionsOf s gs ss) ⊙ whole 10000000)
 
 module _ (s gs ss : List ℕ) (v : verdict s ≡ accepted gs ss) where
   pub figure-within : (i : ℕ) → i < 10 → Figures s gs ss i
   unfolding summed annualFigure peakFigure
   figure-within i h =
       let ts = temperaturesAt s in
-      let a = exact-parts (λ (x : Share). x .tonnes) tonneParts (lit< tt) (λ (x : Share) (u : Units x). u .annual) (getD codes i 0) 1000000 ts (groupsAt s gs) (storesAt s ss) in
-      let p = exact-parts (λ (x : Share). x .rate) gramParts (lit< tt) (λ (x : Share) (u : Units x). u .peak) (getD codes i 0) 10000000 ts (groupsAt s gs) (storesAt s ss) in
+      let a = exact-parts (λ (x : Contribution). x .tonnes) tonneParts (lit< tt) (λ (x : Contribution) (u : Units x). u .annual) (getD codes i 0) 1000000 ts (groupsAt s gs) (storesAt s ss) in
+      let p = exact-parts (λ (x : Contribution). x .rate) gramParts (lit< tt) (λ (x : Contribution) (u : Units x). u .peak) (getD codes i 0) 10000000 ts (groupsAt s gs) (storesAt s ss) in
       record {
-        annual = rw (accepted-answer s gs ss v, map-at (annualFigure (sharesOf s gs ss)) codes i h) (rounded _ (a .left));
-        peak = rw (accepted-answer s gs ss v, map-at (peakFigure (sharesOf s gs ss)) codes i h) (rounded _ (p .left));
+        annual = rw (accepted-answer s gs ss v, map-at (annualFigure (contributionsOf s gs ss)) codes i h) (rounded _ (a .left));
+        peak = rw (accepted-answer s gs ss v, map-at (peakFigure (contributionsOf s gs ss)) codes i h) (rounded _ (p .left));
       }
 
   -- "how many vehicle groups and store records were summed, and those are the lengths of the two chains"

@@ -19,16 +19,16 @@ use Rattle.stores.proofs.Paper.{handling-counted, standing-counted, aspiration-
 use Rattle.slots.specs.declared.store.Store.{Store}
 use Rattle.slots.specs.declared.store.Store.the-variants.{Handling, Standing, Aspiration}
 use Rattle.slot_file.specs.Sources.{VehicleGroup}
-use Rattle.slot_file.specs.Figures.{Share, groupShares, storeShares, gathered, allShares, exactSum}
+use Rattle.slot_file.specs.Figures.{Contribution, groupContributions, storeContributions, gathered, contributions, exactSum}
 use Rattle.slot_file.specs.Alike.{total}
 use Rattle.slot_file.proofs.Bag.{total-append}
 
--- a share's tonnes and rate are whole numbers of exact units
-pub record Units (x : Share) : Type 0 where
+-- a contribution's tonnes and rate are whole numbers of exact units
+pub record Units (x : Contribution) : Type 0 where
   pub annual : x .tonnes ≈ (partsOf tonneParts (x .tonnes) over tonneParts)
   pub peak : x .rate ≈ (partsOf gramParts (x .rate) over gramParts)
 
-units : (x : Share) {a p : ℕ} → Counted (x .tonnes) (x .rate) a p → Units x
+units : (x : Contribution) {a p : ℕ} → Counted (x .tonnes) (x .rate) a p → Units x
 units x e = record { annual = rw (parts (e .annual)) (e .annual); peak = rw (parts (e .peak)) (e .peak) }
 
 -- P holds of each of a list
@@ -46,45 +46,45 @@ module _ {A : Type 0} (P : A → Type 0) where
   each-listTo zero f h = tt
   each-listTo (suc n) f h = (h 0, each-listTo n (λ (i : ℕ). f (suc i)) (λ (i : ℕ). h (suc i)))
 
-group-units : (ts : List ℤ) (v : VehicleGroup) → Each Units (groupShares ts v)
-unfolding groupShares
+group-units : (ts : List ℤ) (v : VehicleGroup) → Each Units (groupContributions ts v)
+unfolding groupContributions
 group-units ts v = each-listTo Units 6 _ (λ (p : ℕ). units _ (counted (v .group) ts (getD (v .coefficients) p noCoefficients) p))
 
-store-units : (r : Store) → Each Units (storeShares r)
-unfolding storeShares
+store-units : (r : Store) → Each Units (storeContributions r)
+unfolding storeContributions
 store-units (Handling h) = (units _ (handling-counted h), tt)
 store-units (Standing s) = (units _ (standing-counted s), tt)
 store-units (Aspiration a) = (units _ (aspiration-counted a), tt)
 
-each-gathered : {A : Type 0} (f : A → List Share) → ((x : A) → Each Units (f x)) → (l : List A) → Each Units (gathered f l)
+each-gathered : {A : Type 0} (f : A → List Contribution) → ((x : A) → Each Units (f x)) → (l : List A) → Each Units (gathered f l)
 unfolding gathered
 each-gathered f h [] = tt
 each-gathered f h (x ∷ l) = each-append Units (f x) (gathered f l) (h x) (each-gathered f h l)
 
-total-gathered : {A : Type 0} (n : Share → ℕ) (f : A → List Share) (l : List A) → total n (gathered f l) ≡ total (λ (x : A). total n (f x)) l
+total-gathered : {A : Type 0} (n : Contribution → ℕ) (f : A → List Contribution) (l : List A) → total n (gathered f l) ≡ total (λ (x : A). total n (f x)) l
 unfolding gathered
 total-gathered n f [] = refl
 total-gathered n f (x ∷ l) = omega (arith, total-append n (f x) (gathered f l), total-gathered n f l)
 
 module _ (ts : List ℤ) (gs : List VehicleGroup) (rs : List Store) where
-  all-units : Each Units (allShares ts gs rs)
-  unfolding allShares
+  all-units : Each Units (contributions ts gs rs)
+  unfolding contributions
   all-units =
-      each-append Units (gathered (groupShares ts) gs) (gathered storeShares rs) (each-gathered (groupShares ts) (group-units ts) gs) (each-gathered storeShares store-units rs)
+      each-append Units (gathered (groupContributions ts) gs) (gathered storeContributions rs) (each-gathered (groupContributions ts) (group-units ts) gs) (each-gathered storeContributions store-units rs)
 
-  -- a total over all shares is one over the groups and one over the store records
-  pub total-shares : (f : Share → ℕ) →
-      total f (allShares ts gs rs) ≡ total (λ (g : VehicleGroup). total f (groupShares ts g)) gs + total (λ (r : Store). total f (storeShares r)) rs
-  unfolding allShares
-  total-shares f =
-      omega (arith, total-append f (gathered (groupShares ts) gs) (gathered storeShares rs), total-gathered f (groupShares ts) gs, total-gathered f storeShares rs)
+  -- a total over all contributions is one over the groups and one over the store records
+  pub total-contributions : (f : Contribution → ℕ) →
+      total f (contributions ts gs rs) ≡ total (λ (g : VehicleGroup). total f (groupContributions ts g)) gs + total (λ (r : Store). total f (storeContributions r)) rs
+  unfolding contributions
+  total-contributions f =
+      omega (arith, total-append f (gathered (groupContributions ts) gs) (gathered storeContributions rs), total-gathered f (groupContributions ts) gs, total-gathered f storeContributions rs)
 
--- the parts of 1 / k that a share gives to the code c
-unfoldable pub partsTo : (Share → Frac) → ℕ → ℕ → Share → ℕ
+-- the parts of 1 / k that a contribution gives to the code c
+unfoldable pub partsTo : (Contribution → Frac) → ℕ → ℕ → Contribution → ℕ
 partsTo f k c x = if_then_else (eqb (x .code) c) (partsOf k (f x)) 0
 
-module _ (f : Share → Frac) (k : ℕ) (pos : 0 < k) (exact : (x : Share) → Units x → f x ≈ (partsOf k (f x) over k)) (c : ℕ) where
-  sum-parts : (xs : List Share) → Each Units xs → exactSum f c xs ≈ (total (partsTo f k c) xs over k)
+module _ (f : Contribution → Frac) (k : ℕ) (pos : 0 < k) (exact : (x : Contribution) → Units x → f x ≈ (partsOf k (f x) over k)) (c : ℕ) where
+  sum-parts : (xs : List Contribution) → Each Units xs → exactSum f c xs ≈ (total (partsTo f k c) xs over k)
   unfolding exactSum partsTo if_then_else
   sum-parts [] h = record { left = lit< tt; right = pos; cross = omega arith }
   sum-parts (x ∷ xs) h = go (eqb (x .code) c) (sum-parts xs (h .1))
@@ -96,5 +96,5 @@ module _ (f : Share → Frac) (k : ℕ) (pos : 0 < k) (exact : (x : Share) → U
 
   -- the exact sum in printed units, of which one tonne or gram per second has u
   pub exact-parts : (u : ℕ) (ts : List ℤ) (gs : List VehicleGroup) (rs : List Store) →
-      exactSum f c (allShares ts gs rs) ⊙ whole u ≈ ((total (partsTo f k c) (allShares ts gs rs) * u) over (k * 1))
-  exact-parts u ts gs rs = ≈-⊙ (sum-parts (allShares ts gs rs) (all-units ts gs rs)) (≈-refl u 1 (lit< tt))
+      exactSum f c (contributions ts gs rs) ⊙ whole u ≈ ((total (partsTo f k c) (contributions ts gs rs) * u) over (k * 1))
+  exact-parts u ts gs rs = ≈-⊙ (sum-parts (contributions ts gs rs) (all-units ts gs rs)) (≈-refl u 1 (lit< tt))

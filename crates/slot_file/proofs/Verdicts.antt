@@ -13,8 +13,8 @@ use Rattle.sums.specs.Choice.{if_then_else}
 use Rattle.sums.proofs.Choices.{left, right}
 use Rattle.slots.specs.Bytes.{slotOf}
 use Rattle.slots.specs.Layout.{nextOf, headerOf}
-use Rattle.slot_file.specs.Questions.{Question, slotCount, headAsks, member, linkAsks, groupAsks, storeAsks, lastAsks}
-use Rattle.slot_file.specs.Walk.{Verdict, accepted, refused, first, chain, storesAfter, verdict}
+use Rattle.slot_file.specs.Questions.{Question, slotCount, headAsks, member, linkAsks, groupAsks, storeAsks, lastAsks, Verdict, accepted, refused}
+use Rattle.slot_file.specs.Walk.{first, chain, storesAfter, verdict}
 use Rattle.slot_file.specs.Meaning.{AllYes, Reached, Chain, Good, Groups, Accepts, at-head, at-group, at-store, at-last, Means}
 use Rattle.slot_file.proofs.Asking.{first-yes, first-no, first-both}
 use Rattle.slot_file.proofs.Marks.{Different, different-short}

@@ -13,50 +13,53 @@ use Rattle.vehicles.specs.Rules as vehicle
 use Rattle.stores.specs.Rules as store
 use Rattle.slots.specs.declared.store.Store.{Store}
 use Rattle.slots.specs.declared.store.Store.the-variants.{Handling, Standing, Aspiration}
-use Rattle.slot_file.specs.Walk.{Verdict, accepted, refused, verdict}
+use Rattle.slot_file.specs.Questions.{Verdict, accepted, refused}
+use Rattle.slot_file.specs.Walk.{verdict}
 use Rattle.slot_file.specs.Sources.{VehicleGroup, groupsAt, storesAt, temperaturesAt}
 
 -- what a source gives to a code
-pub record Share : Type 0 where
+pub record Contribution : Type 0 where
   pub code : ℕ
   pub tonnes : Frac
   pub rate : Frac
 
-abbrev share : ℕ → Frac → Frac → Share
-share c t r = record { code = c; tonnes = t; rate = r }
+abbrev contribution : ℕ → Frac → Frac → Contribution
+contribution c t r = record { code = c; tonnes = t; rate = r }
 
-unfoldable pub groupShares : List ℤ → VehicleGroup → List Share
-groupShares ts v =
+-- "Vehicle rules": what a group gives to the code of each of the six pollutants
+unfoldable pub groupContributions : List ℤ → VehicleGroup → List Contribution
+groupContributions ts v =
     listTo 6 (λ (p : ℕ).
-    share (vehicle.codeOf (v .group .fuel) p)
+    contribution (vehicle.codeOf (v .group .fuel) p)
     (vehicle.annualTonnes (v .group) ts (getD (v .coefficients) p noCoefficients) (vehicle.controlOf (v .group) p))
     (vehicle.peakGrams (v .group) (getD (v .coefficients) p noCoefficients) (vehicle.controlOf (v .group) p) (vehicle.lowestOf ts)))
 
-unfoldable pub storeShares : Store → List Share
-storeShares (Handling h) = share (store.codeOf (h .bulk .dust)) (store.bulkTonnes (store.handlingPeak h)) (store.handlingPeak h) ∷ []
-storeShares (Standing s) = share (store.codeOf (s .bulk .dust)) (store.bulkTonnes (store.standingPeak s)) (store.standingPeak s) ∷ []
-storeShares (Aspiration a) = share (store.codeOf (a .dust)) (store.aspirationTonnes (store.aspirationPeak a) (a .hours)) (store.aspirationPeak a) ∷ []
+-- "Store rules": what a store record gives to the code of its dust
+unfoldable pub storeContributions : Store → List Contribution
+storeContributions (Handling h) = contribution (store.codeOf (h .bulk .dust)) (store.bulkTonnes (store.handlingPeak h)) (store.handlingPeak h) ∷ []
+storeContributions (Standing s) = contribution (store.codeOf (s .bulk .dust)) (store.bulkTonnes (store.standingPeak s)) (store.standingPeak s) ∷ []
+storeContributions (Aspiration a) = contribution (store.codeOf (a .dust)) (store.aspirationTonnes (store.aspirationPeak a) (a .hours)) (store.aspirationPeak a) ∷ []
 
 -- what each of a list gives, one after the other
-unfoldable pub gathered : {A : Type 0} → (A → List Share) → List A → List Share
+unfoldable pub gathered : {A : Type 0} → (A → List Contribution) → List A → List Contribution
 gathered f [] = []
 gathered f (x ∷ xs) = f x ++ gathered f xs
 
 -- "what the rules above give ... from each source, equal sources each with a term of their own"
-unfoldable pub allShares : List ℤ → List VehicleGroup → List Store → List Share
-allShares ts gs rs = gathered (groupShares ts) gs ++ gathered storeShares rs
+unfoldable pub contributions : List ℤ → List VehicleGroup → List Store → List Contribution
+contributions ts gs rs = gathered (groupContributions ts) gs ++ gathered storeContributions rs
 
 -- the exact sum of the code c
-unfoldable pub exactSum : (Share → Frac) → ℕ → List Share → Frac
+unfoldable pub exactSum : (Contribution → Frac) → ℕ → List Contribution → Frac
 exactSum f c [] = whole 0
 exactSum f c (x ∷ xs) = if_then_else (eqb (x .code) c) (f x ⊞ exactSum f c xs) (exactSum f c xs)
 
 -- "Annual: whole millionths of a tonne. Peak: whole ten-millionths of a gram per second"
-unfoldable pub annualFigure : List Share → ℕ → ℕ
-annualFigure xs c = nearest (exactSum (λ (x : Share). x .tonnes) c xs ⊙ whole 1000000)
+unfoldable pub annualFigure : List Contribution → ℕ → ℕ
+annualFigure xs c = nearest (exactSum (λ (x : Contribution). x .tonnes) c xs ⊙ whole 1000000)
 
-unfoldable pub peakFigure : List Share → ℕ → ℕ
-peakFigure xs c = nearest (exactSum (λ (x : Share). x .rate) c xs ⊙ whole 10000000)
+unfoldable pub peakFigure : List Contribution → ℕ → ℕ
+peakFigure xs c = nearest (exactSum (λ (x : Contribution). x .rate) c xs ⊙ whole 10000000)
 
 -- the codes in the listing's order
 abbrev pub codes : List ℕ
@@ -75,8 +78,8 @@ unfoldable pub summed : List ℤ → List VehicleGroup → List Store → Answer
 summed ts gs rs = record {
   number = 0;
   slot = 0;
-  annual = map (annualFigure (allShares ts gs rs)) codes;
-  peak = map (peakFigure (allShares ts gs rs)) codes;
+  annual = map (annualFigure (contributions ts gs rs)) codes;
+  peak = map (peakFigure (contributions ts gs rs)) codes;
   groups = length gs;
   stores = length rs;
 }

@@ -5,8 +5,7 @@ use mathlib.Core.Bool.{true, false}
 use mathlib.Core.List.{List, [], _∷_}
 use Rattle.slots.specs.Bytes.{slotOf}
 use Rattle.slots.specs.Layout.{nextOf, headerOf}
-use Rattle.slot_file.specs.Questions.{Question, headAsks, groupAsks, storeAsks, lastAsks}
-use Rattle.slot_file.specs.Walk.{Verdict, accepted, refused}
+use Rattle.slot_file.specs.Questions.{Question, headAsks, groupAsks, storeAsks, lastAsks, Verdict, accepted, refused}
 
 -- every question is answered yes
 abbrev pub AllYes : List Question → Type 0

@@ -1,4 +1,4 @@
--- 01, "Questions in order": each question is written once, as a value with its answer, its number and the slot of a refusal.
+-- 01, "Questions in order": each question is written once, as a value with its answer, its number and the slot of a refusal; and what a file is told.
 use Prim.Native.Nat.{ℕ, zero, suc, _+_, _-_, _/_, _%_}
 use mathlib.Core.Bool.{Bool, true, false, _&&_, not}
 use mathlib.Core.List.{List, [], _∷_, _++_}
@@ -18,6 +18,11 @@ pub record Question : Type 0 where
 
 abbrev pub question : Bool → ℕ → ℕ → Question
 question t n k = record { answer = t; number = n; slot = k }
+
+-- accepted, with the slots of the groups and of the store records on the chains, the last of each first; or refused, with a number and a slot
+pub data Verdict : Type 0 where
+  accepted : List ℕ → List ℕ → Verdict
+  refused : ℕ → ℕ → Verdict
 
 -- slots of the file
 abbrev pub slotCount : List ℕ → ℕ

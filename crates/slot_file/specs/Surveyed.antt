@@ -57,11 +57,11 @@ bulk material wind moisture grain openness drop k6 amount =
 abbrev air : ℕ → ℕ → ℕ → ℕ → List ℕ
 air c v capture hours = two 0 ++ four c ++ four v ++ two capture ++ two hours
 
--- a file of one record, and of two
+-- a file of one store record
 abbrev one : List ℕ → List ℕ
 one record₁ = head 2 0 1 (two 0) ++ record₁
 
--- what is printed: a line for each code, zero but for one of them
+-- a file, and the bytes that are printed for it
 pub record Row : Type 0 where
   pub file : List ℕ
   pub prints : List ℕ

@@ -5,12 +5,7 @@ use lib.Dec.{eqb}
 use Rattle.sums.specs.Choice.{if_then_else}
 use Rattle.slots.specs.Bytes.{slotOf}
 use Rattle.slots.specs.Layout.{nextOf, headerOf}
-use Rattle.slot_file.specs.Questions.{Question, headAsks, groupAsks, storeAsks, lastAsks}
-
--- accepted, with the slots of the groups and of the store records on the chains, the last of each first; or refused, with a number and a slot
-pub data Verdict : Type 0 where
-  accepted : List ℕ → List ℕ → Verdict
-  refused : ℕ → ℕ → Verdict
+use Rattle.slot_file.specs.Questions.{Question, Verdict, accepted, refused, headAsks, groupAsks, storeAsks, lastAsks}
 
 -- the refusal of the first question that is answered no, and else v
 unfoldable pub first : List Question → Verdict → Verdict

@@ -86,6 +86,7 @@ coefficientsOf t = record {
 unfoldable pub coefficientsGood : List ℕ → Coefficients → Bool
 coefficientsGood t k = allOf (coefficientsInRange k ∷ zeroFrom t 32 32 ∷ [])
 
+-- "3 pollutant", and the next index, by which the coefficient chain goes on
 unfoldable pub coefficientsRead : List ℕ → CoefficientsRead
 coefficientsRead t = record {
   number = numberOf (eqb (byteAt t 2) 2) (coefficientsGood t (coefficientsOf t));
@@ -111,6 +112,7 @@ bulkOf t = record {
 unfoldable pub handlingOf : List ℕ → Handling
 handlingOf t = record { bulk = bulkOf t; drop = byteAt t 15 }
 
+-- question 9 of a handling record: "Is each field in range and every unnamed byte zero?"; 16..17 are K6 "standing only"
 unfoldable pub handlingGood : List ℕ → Handling → Bool
 handlingGood t h = allOf (handlingInRange h ∷ eqb (byteAt t 7) 0 ∷ zeroFrom t 16 4 ∷ zeroFrom t 24 40 ∷ [])
 
@@ -121,6 +123,7 @@ readHandling t = if_then_else (handlingGood t (handlingOf t)) (Record (store.Han
 unfoldable pub standingOf : List ℕ → Standing
 standingOf t = record { bulk = bulkOf t; k6 = u16At t 16 }
 
+-- question 9 of a standing record; 15 is the drop class "handling only"
 unfoldable pub standingGood : List ℕ → Standing → Bool
 standingGood t s = allOf (standingInRange s ∷ eqb (byteAt t 7) 0 ∷ eqb (byteAt t 15) 0 ∷ zeroFrom t 18 2 ∷ zeroFrom t 24 40 ∷ [])
 
@@ -138,6 +141,7 @@ aspirationOf t = record {
   hours = u16At t 18;
 }
 
+-- question 9 of an aspiration record
 unfoldable pub aspirationGood : List ℕ → Aspiration → Bool
 aspirationGood t a = allOf (aspirationInRange a ∷ zeroFrom t 6 2 ∷ zeroFrom t 20 44 ∷ [])
 

@@ -1,8 +1,10 @@
-// A slot's bytes.
+// A slot's bytes, and its next index.
 ghost use mathlib.Core.Path.{_≡_};
 ghost use Prim.Native.Nat.{_+_, _≤_};
 ghost use lib.ListN.{length};
 ghost use Rattle.slots.specs.Bytes.{bytesFrom, slotOf};
+ghost use Rattle.slots.specs.Layout.{nextOf};
+use super::bytes;
 
 fn bytes_from(file: &[u8], base: usize) -> [u8; 64]
     requires { ⌜ base + 64 ≤ length (now file) ⌝ }
@@ -26,4 +28,11 @@ pub fn slot_at(file: &[u8], n: usize) -> [u8; 64]
     } else {
         [0; 64]
     }
+}
+
+// The next index of a slot.
+pub fn next_of(t: &[u8; 64]) -> u16
+    ensures { λ r. ⌜ r ≡ nextOf (now (t .entry)) ⌝ }
+{
+    bytes::u16_at(t, 0)
 }

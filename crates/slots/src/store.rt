@@ -1,6 +1,6 @@
 // A store record's slot.
 ghost use mathlib.Core.Path.{_≡_};
-ghost use Rattle.slots.specs.Layout.{bulkOf, handlingOf, handlingGood, readHandling, standingOf, standingGood, readStanding, aspirationOf, aspirationGood, readAspiration, readStore, nextOf};
+ghost use Rattle.slots.specs.Layout.{bulkOf, handlingOf, handlingGood, readHandling, standingOf, standingGood, readStanding, aspirationOf, aspirationGood, readAspiration, readStore};
 use super::bytes;
 use stores::Aspiration;
 use stores::Bulk;
@@ -134,11 +134,4 @@ pub fn read_store(t: &[u8; 64]) -> StoreRead
         5 => read_aspiration(t),
         _ => StoreRead::WrongKind,
     }
-}
-
-// The next index of a slot.
-pub fn next_of(t: &[u8; 64]) -> u16
-    ensures { λ r. ⌜ r ≡ nextOf (now (t .entry)) ⌝ }
-{
-    bytes::u16_at(t, 0)
 }
