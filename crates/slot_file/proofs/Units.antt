@@ -56,15 +56,15 @@ store-units (Handling h) = (units _ (handling-counted h), tt)
 store-units (Standing s) = (units _ (standing-counted s), tt)
 store-units (Aspiration a) = (units _ (aspiration-counted a), tt)
 
-each-gathered : {A : Type 0} (f : A → List Contribution) → ((x : A) → Each Units (f x)) → (l : List A) → Each Units (gathered f l)
-unfolding gathered
-each-gathered f h [] = tt
-each-gathered f h (x ∷ l) = each-append Units (f x) (gathered f l) (h x) (each-gathered f h l)
-
 total-gathered : {A : Type 0} (n : Contribution → ℕ) (f : A → List Contribution) (l : List A) → total n (gathered f l) ≡ total (λ (x : A). total n (f x)) l
 unfolding gathered
 total-gathered n f [] = refl
 total-gathered n f (x ∷ l) = omega (arith, total-append n (f x) (gathered f l), total-gathered n f l)
+
+each-gathered : {A : Type 0} (f : A → List Contribution) → ((x : A) → Each Units (f x)) → (l : List A) → Each Units (gathered f l)
+unfolding gathered
+each-gathered f h [] = tt
+each-gathered f h (x ∷ l) = each-append Units (f x) (gathered f l) (h x) (each-gathered f h l)
 
 module _ (ts : List ℤ) (gs : List VehicleGroup) (rs : List Store) where
   all-units : Each Units (contributions ts gs rs)
