@@ -1,7 +1,7 @@
 -- The surveyed examples print what 01 says, or what follows from what it says: computed, from the definitions as a whole. Assumes nothing.
 use Prim.Native.Nat.{ℕ}
 use mathlib.Core.Path.{_≡_, refl}
-use mathlib.Core.List.{[], _∷_, _++_, map}
+use mathlib.Core.List.{List, [], _∷_, _++_, map}
 use lib.ListN.{replicate}
 use Rattle.sums.specs.Choice.{if_then_else, allTo, listTo}
 use Rattle.sums.specs.Fraction.{totalTo}
@@ -20,13 +20,13 @@ use Rattle.slot_file.specs.Figures.{refusal, groupContributions, storeCo
 use Rattle.slot_file.specs.Listing.{Listed, listed, text, digits, padded, fixed, line, lines, listing, refusalLine, printed}
 use Rattle.slot_file.specs.Surveyed.{Row, surveyed, refusals, fileOfB, listingOfB}
 
-pub as-surveyed : map (λ (r : Row). printed (answer (r .file))) surveyed ≡ map (λ (r : Row). r .prints) surveyed
-unfolding surveyed if_then_else allTo listTo totalTo nearest upTo temperaturesInRange distancesInRange daysInRange groupInRange coefficientsInRange allZero below place tableMinutes minutesAt periodAt controlOf runAndIdle outGrams inGrams monthGrams annualTonnes peakGrams lowerOf lowestTo codeOf notZero bulkInRange handlingInRange standingInRange aspirationInRange k6Of handlingPeak standingPeak bulkTonnes aspirationPeak aspirationTonnes bytesFrom slotOf i16At zeroFrom numberOf temperaturesOf headerOf daysOf distancesAt groupOf groupGood groupRead coefficientsOf coefficientsGood coefficientsRead bulkOf handlingOf handlingGood readHandling standingOf standingGood readStanding aspirationOf aspirationGood readAspiration readStore coefficientSlot groupAt storeAt groupsAt storesAt temperaturesAt headAsks member linkAsks coefficientHolder coefficientAsks closingAsks reachedBy groupAsks storeAsks reachAsks lastAsks first chain storesAfter verdict groupContributions storeContributions gathered contributions exactSum annualFigure peakFigure summed answered answer text digits padded fixed line lines listing refusalLine printed
-as-surveyed = refl
+-- of each row's file is printed what the row says
+abbrev Prints : List Row → Type 0
+Prints rows = map (λ (r : Row). printed (answer (r .file))) rows ≡ map (λ (r : Row). r .prints) rows
 
-pub as-refused : map (λ (r : Row). printed (answer (r .file))) refusals ≡ map (λ (r : Row). r .prints) refusals
-unfolding refusals if_then_else allTo listTo totalTo nearest upTo temperaturesInRange distancesInRange daysInRange groupInRange coefficientsInRange allZero below place tableMinutes minutesAt periodAt controlOf runAndIdle outGrams inGrams monthGrams annualTonnes peakGrams lowerOf lowestTo codeOf notZero bulkInRange handlingInRange standingInRange aspirationInRange k6Of handlingPeak standingPeak bulkTonnes aspirationPeak aspirationTonnes bytesFrom slotOf i16At zeroFrom numberOf temperaturesOf headerOf daysOf distancesAt groupOf groupGood groupRead coefficientsOf coefficientsGood coefficientsRead bulkOf handlingOf handlingGood readHandling standingOf standingGood readStanding aspirationOf aspirationGood readAspiration readStore coefficientSlot groupAt storeAt groupsAt storesAt temperaturesAt headAsks member linkAsks coefficientHolder coefficientAsks closingAsks reachedBy groupAsks storeAsks reachAsks lastAsks first chain storesAfter verdict groupContributions storeContributions gathered contributions exactSum annualFigure peakFigure summed answered answer text digits padded fixed line lines listing refusalLine printed
-as-refused = refl
+pub as-surveyed : Prints surveyed × Prints refusals
+unfolding surveyed refusals if_then_else allTo listTo totalTo nearest upTo temperaturesInRange distancesInRange daysInRange groupInRange coefficientsInRange allZero below place tableMinutes minutesAt periodAt controlOf runAndIdle outGrams inGrams monthGrams annualTonnes peakGrams lowerOf lowestTo codeOf notZero bulkInRange handlingInRange standingInRange aspirationInRange k6Of handlingPeak standingPeak bulkTonnes aspirationPeak aspirationTonnes bytesFrom slotOf i16At zeroFrom numberOf temperaturesOf headerOf daysOf distancesAt groupOf groupGood groupRead coefficientsOf coefficientsGood coefficientsRead bulkOf handlingOf handlingGood readHandling standingOf standingGood readStanding aspirationOf aspirationGood readAspiration readStore coefficientSlot groupAt storeAt groupsAt storesAt temperaturesAt headAsks member linkAsks coefficientHolder coefficientAsks closingAsks reachedBy groupAsks storeAsks reachAsks lastAsks first chain storesAfter verdict groupContributions storeContributions gathered contributions exactSum annualFigure peakFigure summed answered answer text digits padded fixed line lines listing refusalLine printed
+as-surveyed = (refl, refl)
 
 -- B's listing in a lent buffer: one byte too short, as long, and longer
 abbrev lent : ℕ → Listed

@@ -1,11 +1,11 @@
 -- A refusal has a number from 1 to 12, so an answer's number is 0 exactly where the file is accepted: the numbers stand in the questions. Assumes nothing.
-use Prim.Native.Nat.{ℕ, zero, suc, _+_, _-_, _≤_}
+use Prim.Native.Nat.{ℕ, zero, suc, _+_, _≤_}
 use native.Mathlib.Omega.{arith}
-use mathlib.Core.Path.{_≡_, sym, ap, _∙_}
+use mathlib.Core.Path.{_≡_}
 use mathlib.Core.List.{List, [], _∷_, _++_}
 use Rattle.slots.specs.Bytes.{slotOf}
 use Rattle.slots.specs.Layout.{groupRead, readStore, storeNumber}
-use Rattle.slot_file.specs.Questions.{Question, lastOf, slotCount, headAsks, linkAsks, coefficientAsks, closingAsks, groupAsks, storeAsks, reachedBy, reachAsks, lastAsks, accepted, refused}
+use Rattle.slot_file.specs.Questions.{Question, lastOf, headAsks, linkAsks, coefficientAsks, closingAsks, groupAsks, storeAsks, reachAsks, lastAsks, accepted, refused}
 use Rattle.slot_file.specs.Walk.{verdict}
 use Rattle.slot_file.specs.Meaning.{FirstNo, here, later, Refuses, at-head, at-group, at-store, at-last}
 use Rattle.slot_file.specs.Figures.{refusal, answered, answer, summed}

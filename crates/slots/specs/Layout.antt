@@ -1,6 +1,7 @@
 -- 01, "The slot file": the fields of slot 0, a group, coefficients and a store record, by their byte positions.
 use Prim.Native.Nat.{ℕ, _+_, _*_, _/_, _%_}
-use mathlib.Core.Bool.{Bool}
+use mathlib.Core.Path.{_≡_}
+use mathlib.Core.Bool.{Bool, _||_}
 use mathlib.Core.List.{List, [], _∷_}
 use lib.Dec.{leb, eqb}
 use lib.IntN.{ℤ}
@@ -154,8 +155,21 @@ readStore t =
     if_then_else (eqb (byteAt t 2) 3) (readHandling t)
     (if_then_else (eqb (byteAt t 2) 4) (readStanding t) (if_then_else (eqb (byteAt t 2) 5) (readAspiration t) WrongKind))
 
--- the paper's number for each case of a store record's read
+-- "For any answer that is an enum, a definition gives this paper's number and values for each of its cases": the number of a read; its value is the record
 abbrev pub storeNumber : StoreRead → ℕ
 storeNumber (Record r) = 0
 storeNumber WrongKind = 8
 storeNumber OutOfRange = 9
+
+-- "Has it a kind this chain carries?", of the store chain, and question 9 by the kind
+unfoldable pub storeKind : List ℕ → Bool
+storeKind t = eqb (byteAt t 2) 3 || eqb (byteAt t 2) 4 || eqb (byteAt t 2) 5
+
+unfoldable pub storeGood : List ℕ → Bool
+storeGood t =
+    if_then_else (eqb (byteAt t 2) 3) (handlingGood t (handlingOf t))
+    (if_then_else (eqb (byteAt t 2) 4) (standingGood t (standingOf t)) (aspirationGood t (aspirationOf t)))
+
+-- a store record's read is right where it is the one of the slot, with the paper's number
+abbrev pub StoreReads : List ℕ → StoreRead → Type 0
+StoreReads t r = (r ≡ readStore t) × (storeNumber r ≡ numberOf (storeKind t) (storeGood t))

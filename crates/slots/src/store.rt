@@ -1,6 +1,6 @@
 // A store record's slot.
 ghost use mathlib.Core.Path.{_≡_};
-ghost use Rattle.slots.specs.Layout.{bulkOf, handlingOf, handlingGood, readHandling, standingOf, standingGood, readStanding, aspirationOf, aspirationGood, readAspiration, readStore};
+ghost use Rattle.slots.specs.Layout.{bulkOf, handlingOf, handlingGood, readHandling, standingOf, standingGood, readStanding, aspirationOf, aspirationGood, readAspiration, StoreReads};
 use super::bytes;
 use stores::Aspiration;
 use stores::Bulk;
@@ -125,7 +125,7 @@ fn read_aspiration(t: &[u8; 64]) -> StoreRead
 }
 
 pub fn read_store(t: &[u8; 64]) -> StoreRead
-    ensures { λ r. ⌜ r ≡ readStore (now (t .entry)) ⌝ }
+    ensures { λ r. ⌜ StoreReads (now (t .entry)) r ⌝ }
 {
     let kind = t[2];
     match kind {
