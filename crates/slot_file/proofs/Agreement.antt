@@ -10,11 +10,12 @@ use lib.IntN.{ℤ}
 use Rattle.sums.specs.Fraction.{Frac, _over_, whole, _⊙_, _≈_, partsOf}
 use Rattle.sums.specs.Figures.{nearest, tonneParts, gramParts}
 use Rattle.sums.proofs.Figure.{nearest-same}
+use Rattle.sums.specs.Answer.{Contribution}
 use Rattle.slots.specs.declared.store.Store.{Store}
 use Rattle.slot_file.specs.Questions.{accepted}
 use Rattle.slot_file.specs.Walk.{verdict}
 use Rattle.slot_file.specs.Sources.{VehicleGroup, groupsAt, storesAt, temperaturesAt}
-use Rattle.slot_file.specs.Figures.{Contribution, groupContributions, storeContributions, contributions, exactSum, annualFigure, peakFigure, codes, summed, answered, answer}
+use Rattle.slot_file.specs.Figures.{groupContributions, storeContributions, contributions, exactSum, annualFigure, peakFigure, codes, summed, answered, answer}
 use Rattle.slot_file.specs.Alike.{total, sameGroup, sameStore, alike}
 use Rattle.slot_file.proofs.Bag.{alike-total, alike-length}
 use Rattle.slot_file.proofs.Same.{group-sound, group-same, store-sound, store-same}

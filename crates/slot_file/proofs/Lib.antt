@@ -5,7 +5,6 @@ pub mod Chains
 pub mod Verdicts
 pub mod Unreached
 pub mod Numbers
-pub mod Records
 pub mod Bag
 pub mod Same
 pub mod Units

@@ -9,10 +9,11 @@ use lib.ListN.{getD, length, length-map, length-reverse}
 use Rattle.sums.specs.Fraction.{Frac, whole, _⊙_}
 use Rattle.sums.specs.Figures.{nearest, tonneParts, gramParts}
 use Rattle.sums.proofs.Rounding.{within, half-up}
+use Rattle.sums.specs.Answer.{Contribution}
 use Rattle.slot_file.specs.Questions.{accepted}
 use Rattle.slot_file.specs.Walk.{verdict}
 use Rattle.slot_file.specs.Sources.{groupAt, storeAt, groupsAt, storesAt, temperaturesAt}
-use Rattle.slot_file.specs.Figures.{Contribution, contributions, exactSum, annualFigure, peakFigure, codes, summed, answer}
+use Rattle.slot_file.specs.Figures.{contributions, exactSum, annualFigure, peakFigure, codes, summed, answer}
 use Rattle.slot_file.proofs.Units.{Units, exact-parts}
 use Rattle.slot_file.proofs.Agreement.{accepted-answer}
 

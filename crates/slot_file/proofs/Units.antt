@@ -16,10 +16,11 @@ use Rattle.sums.proofs.Sources.{Counted}
 use Rattle.vehicles.specs.Fields.{noCoefficients}
 use Rattle.vehicles.proofs.Paper.{counted}
 use Rattle.stores.proofs.Paper.{handling-counted, standing-counted, aspiration-counted}
+use Rattle.sums.specs.Answer.{Contribution}
 use Rattle.slots.specs.declared.store.Store.{Store}
 use Rattle.slots.specs.declared.store.Store.the-variants.{Handling, Standing, Aspiration}
 use Rattle.slot_file.specs.Sources.{VehicleGroup}
-use Rattle.slot_file.specs.Figures.{Contribution, groupContributions, storeContributions, gathered, contributions, exactSum}
+use Rattle.slot_file.specs.Figures.{groupContributions, storeContributions, gathered, contributions, exactSum}
 use Rattle.slot_file.specs.Alike.{total}
 use Rattle.slot_file.proofs.Bag.{total-append}
 

@@ -8,37 +8,26 @@ use lib.ListN.{getD, length}
 use Rattle.sums.specs.Choice.{if_then_else, listTo}
 use Rattle.sums.specs.Fraction.{Frac, whole, _⊙_, _⊞_}
 use Rattle.sums.specs.Figures.{nearest}
+use Rattle.sums.specs.Answer.{Contribution}
 use Rattle.vehicles.specs.Fields.{noCoefficients}
-use Rattle.vehicles.specs.Rules as vehicle
-use Rattle.stores.specs.Rules as store
+use Rattle.vehicles.specs.Rules.{contributionOf}
+use Rattle.stores.specs.Rules.{handlingContribution, standingContribution, aspirationContribution}
 use Rattle.slots.specs.declared.store.Store.{Store}
 use Rattle.slots.specs.declared.store.Store.the-variants.{Handling, Standing, Aspiration}
+use Rattle.slot_file.specs.declared.Answer.{Answer}
 use Rattle.slot_file.specs.Questions.{Verdict, accepted, refused}
 use Rattle.slot_file.specs.Walk.{verdict}
 use Rattle.slot_file.specs.Sources.{VehicleGroup, groupsAt, storesAt, temperaturesAt}
 
--- what a source gives to a code
-pub record Contribution : Type 0 where
-  pub code : ℕ
-  pub tonnes : Frac
-  pub rate : Frac
-
-abbrev contribution : ℕ → Frac → Frac → Contribution
-contribution c t r = record { code = c; tonnes = t; rate = r }
-
 -- "Vehicle rules": what a group gives to the code of each of the six pollutants
 unfoldable pub groupContributions : List ℤ → VehicleGroup → List Contribution
-groupContributions ts v =
-    listTo 6 (λ (p : ℕ).
-    contribution (vehicle.codeOf (v .group .fuel) p)
-    (vehicle.annualTonnes (v .group) ts (getD (v .coefficients) p noCoefficients) (vehicle.controlOf (v .group) p))
-    (vehicle.peakGrams (v .group) (getD (v .coefficients) p noCoefficients) (vehicle.controlOf (v .group) p) (vehicle.lowestOf ts)))
+groupContributions ts v = listTo 6 (λ (p : ℕ). contributionOf (v .group) ts (getD (v .coefficients) p noCoefficients) p)
 
 -- "Store rules": what a store record gives to the code of its dust
 unfoldable pub storeContributions : Store → List Contribution
-storeContributions (Handling h) = contribution (store.codeOf (h .bulk .dust)) (store.bulkTonnes (store.handlingPeak h)) (store.handlingPeak h) ∷ []
-storeContributions (Standing s) = contribution (store.codeOf (s .bulk .dust)) (store.bulkTonnes (store.standingPeak s)) (store.standingPeak s) ∷ []
-storeContributions (Aspiration a) = contribution (store.codeOf (a .dust)) (store.aspirationTonnes (store.aspirationPeak a) (a .hours)) (store.aspirationPeak a) ∷ []
+storeContributions (Handling h) = handlingContribution h ∷ []
+storeContributions (Standing s) = standingContribution s ∷ []
+storeContributions (Aspiration a) = aspirationContribution a ∷ []
 
 -- what each of a list gives, one after the other
 unfoldable pub gathered : {A : Type 0} → (A → List Contribution) → List A → List Contribution
@@ -65,15 +54,7 @@ peakFigure xs c = nearest (exactSum (λ (x : Contribution). x .rate) c xs ⊙ wh
 abbrev pub codes : List ℕ
 codes = 152 ∷ 184 ∷ 301 ∷ 328 ∷ 330 ∷ 337 ∷ 2704 ∷ 2754 ∷ 2908 ∷ 2909 ∷ []
 
--- a number and a slot, 0 and 0 of an accepted file; the figures by code, and how many groups and store records were summed
-pub record Answer : Type 0 where
-  pub number : ℕ
-  pub slot : ℕ
-  pub annual : List ℕ
-  pub peak : List ℕ
-  pub groups : ℕ
-  pub stores : ℕ
-
+-- the answer: a number and a slot, 0 and 0 of an accepted file; the figures by code, and how many groups and store records were summed
 unfoldable pub summed : List ℤ → List VehicleGroup → List Store → Answer
 summed ts gs rs = record {
   number = 0;

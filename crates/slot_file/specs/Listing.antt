@@ -7,7 +7,8 @@ use Prim.Native.Char.{code}
 use Prim.Native.String as string
 use Prim.Native.String.{String}
 use Rattle.sums.specs.Choice.{if_then_else}
-use Rattle.slot_file.specs.Figures.{Answer, codes, refusal}
+use Rattle.slot_file.specs.declared.Answer.{Answer}
+use Rattle.slot_file.specs.Figures.{codes, refusal}
 
 -- the bytes of a text, whose characters are all of ASCII
 unfoldable pub text : String → List ℕ

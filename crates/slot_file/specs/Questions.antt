@@ -82,12 +82,12 @@ abbrev pub lastOf : List ℕ → ℕ
 lastOf [] = 0
 lastOf (k ∷ b) = k
 
--- every slot that the groups reach: themselves and their six coefficient slots
+-- every slot that the groups reach, the last first: themselves and their six coefficient slots
 unfoldable pub reachedBy : List ℕ → List ℕ → List ℕ
 reachedBy s [] = []
 reachedBy s (g ∷ b) =
-    g ∷ coefficientSlot s g 0 ∷ coefficientSlot s g 1 ∷ coefficientSlot s g 2 ∷ coefficientSlot s g 3 ∷ coefficientSlot s g 4 ∷ coefficientSlot s g 5
-    ∷ reachedBy s b
+    coefficientSlot s g 5 ∷ coefficientSlot s g 4 ∷ coefficientSlot s g 3 ∷ coefficientSlot s g 2 ∷ coefficientSlot s g 1 ∷ coefficientSlot s g 0
+    ∷ g ∷ reachedBy s b
 
 -- all that is asked of a link g to a group, after the groups b, the last of them first
 unfoldable pub groupAsks : List ℕ → List ℕ → ℕ → List Question

@@ -2,15 +2,13 @@
 -- the first coefficient slot, and of a group the seven coefficients for each of the six pollutants.
 use Prim.Native.Nat.{ℕ, zero, suc}
 use mathlib.Core.List.{List, map, reverse}
-use lib.Dec.{eqb}
 use lib.IntN.{ℤ}
-use Rattle.sums.specs.Choice.{if_then_else, listTo}
+use Rattle.sums.specs.Choice.{listTo}
 use Rattle.vehicles.specs.declared.group.Group.{Group}
 use Rattle.vehicles.specs.declared.group.Coefficients.{Coefficients}
-use Rattle.slots.specs.Bytes.{byteAt, slotOf}
-use Rattle.slots.specs.Layout.{headerOf, groupRead, coefficientsRead, handlingOf, standingOf, aspirationOf}
+use Rattle.slots.specs.Bytes.{slotOf}
+use Rattle.slots.specs.Layout.{headerOf, groupRead, coefficientsRead, storeOf}
 use Rattle.slots.specs.declared.store.Store.{Store}
-use Rattle.slots.specs.declared.store.Store.the-variants.{Handling, Standing, Aspiration}
 
 -- "34..35 first coefficient slot", and the chain from there: the coefficient slot of a group for the pollutant at place n from 0
 unfoldable pub coefficientSlot : List ℕ → ℕ → ℕ → ℕ
@@ -28,11 +26,9 @@ groupAt s g = record {
   coefficients = listTo 6 (λ (n : ℕ). coefficientsRead (slotOf s (coefficientSlot s g n)) .coefficients);
 }
 
--- the record of a slot that reads as one (`proofs/Records`)
+-- the record of a slot that reads as one
 unfoldable pub storeAt : List ℕ → ℕ → Store
-storeAt s k =
-    if_then_else (eqb (byteAt (slotOf s k) 2) 3) (Handling (handlingOf (slotOf s k)))
-    (if_then_else (eqb (byteAt (slotOf s k) 2) 4) (Standing (standingOf (slotOf s k))) (Aspiration (aspirationOf (slotOf s k))))
+storeAt s k = storeOf (slotOf s k)
 
 -- in the order of the chains, which a verdict has the last first
 unfoldable pub groupsAt : List ℕ → List ℕ → List VehicleGroup

@@ -1,1 +1,12 @@
-// A slot file: what is asked of it, and what it answers.
+// What is asked of a slot file and what it answers, as definitions (specs/) with their theorems (proofs/), and the answer's own form.
+
+// The number of the question that was answered no and a slot, 0 and 0 where none was; the annual figures in millionths of a tonne and the peak figures in
+// ten-millionths of a gram per second, by code; and how many groups and store records were summed.
+pub struct Answer {
+    pub number: u8,
+    pub slot: u16,
+    pub annual: [u64; 10],
+    pub peak: [u64; 10],
+    pub groups: u16,
+    pub stores: u16,
+}

@@ -12,14 +12,15 @@ use Rattle.vehicles.specs.declared.group.Group.{Group}
 use Rattle.vehicles.specs.declared.group.Coefficients.{Coefficients}
 use Rattle.stores.specs.Fields.{handlingInRange, standingInRange, aspirationInRange}
 use Rattle.stores.specs.declared.records.Bulk.{Bulk}
-use Rattle.stores.specs.declared.records.Handling.{Handling}
-use Rattle.stores.specs.declared.records.Standing.{Standing}
-use Rattle.stores.specs.declared.records.Aspiration.{Aspiration}
+use Rattle.stores.specs.declared.records.Handling as handling
+use Rattle.stores.specs.declared.records.Standing as standing
+use Rattle.stores.specs.declared.records.Aspiration as aspiration
 use Rattle.slots.specs.Bytes.{byteAt, u16At, u32At, i16At, zeroFrom, numberOf}
 use Rattle.slots.specs.declared.header.Header.{Header}
 use Rattle.slots.specs.declared.group.GroupRead.{GroupRead}
 use Rattle.slots.specs.declared.coefficients.CoefficientsRead.{CoefficientsRead}
-use Rattle.slots.specs.declared.store.Store.the-variants as store
+use Rattle.slots.specs.declared.store.Store.{Store}
+use Rattle.slots.specs.declared.store.Store.the-variants.{Handling, Standing, Aspiration}
 use Rattle.slots.specs.declared.store.StoreRead.{StoreRead}
 use Rattle.slots.specs.declared.store.StoreRead.the-variants.{Record, WrongKind, OutOfRange}
 
@@ -110,29 +111,23 @@ bulkOf t = record {
 }
 
 -- "Handling only: 15 drop class"
-unfoldable pub handlingOf : List ℕ → Handling
+unfoldable pub handlingOf : List ℕ → handling.Handling
 handlingOf t = record { bulk = bulkOf t; drop = byteAt t 15 }
 
 -- question 9 of a handling record: "Is each field in range and every unnamed byte zero?"; 16..17 are K6 "standing only"
-unfoldable pub handlingGood : List ℕ → Handling → Bool
+unfoldable pub handlingGood : List ℕ → handling.Handling → Bool
 handlingGood t h = allOf (handlingInRange h ∷ eqb (byteAt t 7) 0 ∷ zeroFrom t 16 4 ∷ zeroFrom t 24 40 ∷ [])
 
-unfoldable pub readHandling : List ℕ → StoreRead
-readHandling t = if_then_else (handlingGood t (handlingOf t)) (Record (store.Handling (handlingOf t))) OutOfRange
-
 -- "Standing only: 16..17 K6"
-unfoldable pub standingOf : List ℕ → Standing
+unfoldable pub standingOf : List ℕ → standing.Standing
 standingOf t = record { bulk = bulkOf t; k6 = u16At t 16 }
 
 -- question 9 of a standing record; 15 is the drop class "handling only"
-unfoldable pub standingGood : List ℕ → Standing → Bool
+unfoldable pub standingGood : List ℕ → standing.Standing → Bool
 standingGood t s = allOf (standingInRange s ∷ eqb (byteAt t 7) 0 ∷ eqb (byteAt t 15) 0 ∷ zeroFrom t 18 2 ∷ zeroFrom t 24 40 ∷ [])
 
-unfoldable pub readStanding : List ℕ → StoreRead
-readStanding t = if_then_else (standingGood t (standingOf t)) (Record (store.Standing (standingOf t))) OutOfRange
-
 -- "Aspiration: 8..11 dust C ... 12..15 gas V ... 16..17 capture ... 18..19 hours"
-unfoldable pub aspirationOf : List ℕ → Aspiration
+unfoldable pub aspirationOf : List ℕ → aspiration.Aspiration
 aspirationOf t = record {
   dust = byteAt t 3;
   store = u16At t 4;
@@ -143,32 +138,35 @@ aspirationOf t = record {
 }
 
 -- question 9 of an aspiration record
-unfoldable pub aspirationGood : List ℕ → Aspiration → Bool
+unfoldable pub aspirationGood : List ℕ → aspiration.Aspiration → Bool
 aspirationGood t a = allOf (aspirationInRange a ∷ zeroFrom t 6 2 ∷ zeroFrom t 20 44 ∷ [])
 
-unfoldable pub readAspiration : List ℕ → StoreRead
-readAspiration t = if_then_else (aspirationGood t (aspirationOf t)) (Record (store.Aspiration (aspirationOf t))) OutOfRange
+-- "(byte 2 = 3 handling, 4 standing, 5 aspiration)": the kinds that the store chain carries, and a choice among them
+unfoldable pub storeKind : List ℕ → Bool
+storeKind t = eqb (byteAt t 2) 3 || eqb (byteAt t 2) 4 || eqb (byteAt t 2) 5
 
--- "(byte 2 = 3 handling, 4 standing, 5 aspiration)"
+unfoldable pub byKind : {A : Type 0} → List ℕ → A → A → A → A
+byKind t handling standing aspiration = if_then_else (eqb (byteAt t 2) 3) handling (if_then_else (eqb (byteAt t 2) 4) standing aspiration)
+
+-- "each with its own fields", and question 9 of them
+unfoldable pub storeOf : List ℕ → Store
+storeOf t = byKind t (Handling (handlingOf t)) (Standing (standingOf t)) (Aspiration (aspirationOf t))
+
+unfoldable pub storeGood : List ℕ → Bool
+storeGood t = byKind t (handlingGood t (handlingOf t)) (standingGood t (standingOf t)) (aspirationGood t (aspirationOf t))
+
+-- a record where its tests hold
+unfoldable pub readBy : Bool → Store → StoreRead
+readBy good r = if_then_else good (Record r) OutOfRange
+
 unfoldable pub readStore : List ℕ → StoreRead
-readStore t =
-    if_then_else (eqb (byteAt t 2) 3) (readHandling t)
-    (if_then_else (eqb (byteAt t 2) 4) (readStanding t) (if_then_else (eqb (byteAt t 2) 5) (readAspiration t) WrongKind))
+readStore t = if_then_else (storeKind t) (readBy (storeGood t) (storeOf t)) WrongKind
 
 -- "For any answer that is an enum, a definition gives this paper's number and values for each of its cases": the number of a read; its value is the record
 abbrev pub storeNumber : StoreRead → ℕ
 storeNumber (Record r) = 0
 storeNumber WrongKind = 8
 storeNumber OutOfRange = 9
-
--- "Has it a kind this chain carries?", of the store chain, and question 9 by the kind
-unfoldable pub storeKind : List ℕ → Bool
-storeKind t = eqb (byteAt t 2) 3 || eqb (byteAt t 2) 4 || eqb (byteAt t 2) 5
-
-unfoldable pub storeGood : List ℕ → Bool
-storeGood t =
-    if_then_else (eqb (byteAt t 2) 3) (handlingGood t (handlingOf t))
-    (if_then_else (eqb (byteAt t 2) 4) (standingGood t (standingOf t)) (aspirationGood t (aspirationOf t)))
 
 -- a store record's read is right where it is the one of the slot, with the paper's number
 abbrev pub StoreReads : List ℕ → StoreRead → Type 0

@@ -1,6 +1,7 @@
 // A store record's slot.
 ghost use mathlib.Core.Path.{_≡_};
-ghost use Rattle.slots.specs.Layout.{bulkOf, handlingOf, handlingGood, readHandling, standingOf, standingGood, readStanding, aspirationOf, aspirationGood, readAspiration, StoreReads};
+ghost use Rattle.slots.specs.Layout.{bulkOf, handlingOf, handlingGood, standingOf, standingGood, aspirationOf, aspirationGood, readBy, StoreReads};
+ghost use Rattle.slots.specs.declared.store.Store.the-variants as variants;
 use super::bytes;
 use stores::Aspiration;
 use stores::Bulk;
@@ -54,7 +55,7 @@ fn handling_good(t: &[u8; 64], h: Handling) -> bool
 }
 
 fn read_handling(t: &[u8; 64]) -> StoreRead
-    ensures { λ r. ⌜ r ≡ readHandling (now (t .entry)) ⌝ }
+    ensures { λ r. ⌜ r ≡ readBy (handlingGood (now (t .entry)) (handlingOf (now (t .entry)))) (variants.Handling (handlingOf (now (t .entry)))) ⌝ }
 {
     let h = handling_of(t);
     if handling_good(t, h) {
@@ -84,7 +85,7 @@ fn standing_good(t: &[u8; 64], s: Standing) -> bool
 }
 
 fn read_standing(t: &[u8; 64]) -> StoreRead
-    ensures { λ r. ⌜ r ≡ readStanding (now (t .entry)) ⌝ }
+    ensures { λ r. ⌜ r ≡ readBy (standingGood (now (t .entry)) (standingOf (now (t .entry)))) (variants.Standing (standingOf (now (t .entry)))) ⌝ }
 {
     let s = standing_of(t);
     if standing_good(t, s) {
@@ -114,7 +115,7 @@ fn aspiration_good(t: &[u8; 64], a: Aspiration) -> bool
 }
 
 fn read_aspiration(t: &[u8; 64]) -> StoreRead
-    ensures { λ r. ⌜ r ≡ readAspiration (now (t .entry)) ⌝ }
+    ensures { λ r. ⌜ r ≡ readBy (aspirationGood (now (t .entry)) (aspirationOf (now (t .entry)))) (variants.Aspiration (aspirationOf (now (t .entry)))) ⌝ }
 {
     let a = aspiration_of(t);
     if aspiration_good(t, a) {

@@ -5,7 +5,7 @@ use mathlib.Core.Bool.{true}
 use Rattle.sums.specs.Choice.{if_then_else}
 use Rattle.sums.proofs.Sources.{Exactly, exactly}
 use Rattle.stores.specs.Fields.{handlingInRange, standingInRange, aspirationInRange}
-use Rattle.stores.specs.Rules.{handlingPeak, standingPeak, bulkTonnes, aspirationPeak, aspirationTonnes, codeOf, handlingAnswer, standingAnswer, aspirationAnswer}
+use Rattle.stores.specs.Rules.{handlingPeak, standingPeak, bulkTonnes, aspirationPeak, aspirationTonnes, handlingContribution, standingContribution, aspirationContribution, handlingAnswer, standingAnswer, aspirationAnswer}
 use Rattle.stores.specs.declared.records.Handling.{Handling}
 use Rattle.stores.specs.declared.records.Standing.{Standing}
 use Rattle.stores.specs.declared.records.Aspiration.{Aspiration}
@@ -14,12 +14,12 @@ use Rattle.stores.proofs.Bounds.{handling-bounded, standing-bounded, as
 
 pub handling-exactly : (h : Handling) → handlingInRange h ≡ true → Exactly (handlingAnswer h .emission) (bulkTonnes (handlingPeak h)) (handlingPeak h)
 unfolding handlingAnswer if_then_else
-handling-exactly h p = simp p (exactly (codeOf (h .bulk .dust)) (handling-counted h) (handling-bounded h p))
+handling-exactly h p = simp p (exactly (handlingContribution h) (handling-counted h) (handling-bounded h p))
 
 pub standing-exactly : (s : Standing) → standingInRange s ≡ true → Exactly (standingAnswer s .emission) (bulkTonnes (standingPeak s)) (standingPeak s)
 unfolding standingAnswer if_then_else
-standing-exactly s p = simp p (exactly (codeOf (s .bulk .dust)) (standing-counted s) (standing-bounded s p))
+standing-exactly s p = simp p (exactly (standingContribution s) (standing-counted s) (standing-bounded s p))
 
 pub aspiration-exactly : (a : Aspiration) → aspirationInRange a ≡ true → Exactly (aspirationAnswer a .emission) (aspirationTonnes (aspirationPeak a) (a .hours)) (aspirationPeak a)
 unfolding aspirationAnswer if_then_else
-aspiration-exactly a p = simp p (exactly (codeOf (a .dust)) (aspiration-counted a) (aspiration-bounded a p))
+aspiration-exactly a p = simp p (exactly (aspirationContribution a) (aspiration-counted a) (aspiration-bounded a p))

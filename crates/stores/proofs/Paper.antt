@@ -7,7 +7,8 @@ use Rattle.sums.specs.Fraction.{Frac, _over_, _≈_}
 use Rattle.sums.specs.Figures.{annualOf, peakOf}
 use Rattle.sums.proofs.Fractions.{≈-refl, ≈-⊙, ≈-per, ≈-over, parts}
 use Rattle.sums.proofs.Sources.{Counted}
-use Rattle.stores.specs.Rules.{handlingPeak, standingPeak, bulkTonnes, aspirationPeak, aspirationTonnes, answer}
+use Rattle.sums.specs.Answer.{contribution}
+use Rattle.stores.specs.Rules.{handlingPeak, standingPeak, bulkTonnes, aspirationPeak, aspirationTonnes, codeOf, answer}
 use Rattle.stores.specs.Parts.{exposureParts, handlingParts, standingParts, aspirationParts, answerOf}
 use Rattle.stores.specs.declared.records.Handling.{Handling}
 use Rattle.stores.specs.declared.records.Standing.{Standing}
@@ -63,5 +64,5 @@ aspiration-counted a =
     }
 
 -- the sums of so many units are the rule's answer
-pub summed : {tonnes rate : Frac} {a p : ℕ} (dust : ℕ) → Counted tonnes rate a p → answerOf dust (annualOf a) (peakOf p) ≡ answer dust tonnes rate
+pub summed : {tonnes rate : Frac} {a p : ℕ} (dust : ℕ) → Counted tonnes rate a p → answerOf dust (annualOf a) (peakOf p) ≡ answer (contribution (codeOf dust) tonnes rate)
 summed dust e = rw (parts (e .annual), parts (e .peak))

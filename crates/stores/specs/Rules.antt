@@ -6,7 +6,7 @@ use lib.ListN.{getD}
 use Rattle.sums.specs.Choice.{if_then_else}
 use Rattle.sums.specs.Fraction.{Frac, _over_, whole, _⊙_, _per_}
 use Rattle.sums.specs.Table.{Line, to, upTo}
-use Rattle.sums.specs.Answer.{accepted, refusedBy, emitted, noEmission}
+use Rattle.sums.specs.Answer.{Contribution, contribution, accepted, refusedBy, emitted, noEmission}
 use Rattle.stores.specs.Fields.{handlingInRange, standingInRange, aspirationInRange}
 use Rattle.stores.specs.declared.records.Handling.{Handling}
 use Rattle.stores.specs.declared.records.Standing.{Standing}
@@ -116,18 +116,28 @@ dustCodes = 152 ∷ 2908 ∷ 2909 ∷ []
 abbrev pub codeOf : ℕ → ℕ
 codeOf dust = getD dustCodes (dust - 1) 0
 
--- what a record in range gives to the code of its dust; one out of range is refused 9, with zero figures and slot 0
-abbrev pub answer : ℕ → Frac → Frac → StoreAnswer
-answer dust tonnes peak = record { verdict = accepted; emission = emitted (codeOf dust) tonnes peak }
+-- what a record gives to the code of its dust
+abbrev pub handlingContribution : Handling → Contribution
+handlingContribution h = contribution (codeOf (h .bulk .dust)) (bulkTonnes (handlingPeak h)) (handlingPeak h)
+
+abbrev pub standingContribution : Standing → Contribution
+standingContribution s = contribution (codeOf (s .bulk .dust)) (bulkTonnes (standingPeak s)) (standingPeak s)
+
+abbrev pub aspirationContribution : Aspiration → Contribution
+aspirationContribution a = contribution (codeOf (a .dust)) (aspirationTonnes (aspirationPeak a) (a .hours)) (aspirationPeak a)
+
+-- a record in range is answered what it gives; one out of range is refused 9, with zero figures and slot 0
+abbrev pub answer : Contribution → StoreAnswer
+answer x = record { verdict = accepted; emission = emitted x }
 
 abbrev pub outOfRange : StoreAnswer
 outOfRange = record { verdict = refusedBy 9; emission = noEmission }
 
 unfoldable pub handlingAnswer : Handling → StoreAnswer
-handlingAnswer h = if_then_else (handlingInRange h) (answer (h .bulk .dust) (bulkTonnes (handlingPeak h)) (handlingPeak h)) outOfRange
+handlingAnswer h = if_then_else (handlingInRange h) (answer (handlingContribution h)) outOfRange
 
 unfoldable pub standingAnswer : Standing → StoreAnswer
-standingAnswer s = if_then_else (standingInRange s) (answer (s .bulk .dust) (bulkTonnes (standingPeak s)) (standingPeak s)) outOfRange
+standingAnswer s = if_then_else (standingInRange s) (answer (standingContribution s)) outOfRange
 
 unfoldable pub aspirationAnswer : Aspiration → StoreAnswer
-aspirationAnswer a = if_then_else (aspirationInRange a) (answer (a .dust) (aspirationTonnes (aspirationPeak a) (a .hours)) (aspirationPeak a)) outOfRange
+aspirationAnswer a = if_then_else (aspirationInRange a) (answer (aspirationContribution a)) outOfRange

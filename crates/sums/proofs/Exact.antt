@@ -28,6 +28,13 @@ pub record Exact (d n : ℕ) (f : ℕ → ℕ) : Type 0 where
   pub sum : partsIn d (addedTo d n f) ≡ sumTo n f
   pub figure : nearest (partsIn d (addedTo d n f) over d) % 2 ^ 64 ≡ nearest (sumTo n f over d)
 
+-- the figure of a mixed number that drops nothing
+pub figure-exact : (d : ℕ) → 0 < d → (x : ℕ) → x + d < 2 ^ 64 * d → nearest (partsIn d (mixedOf d x) over d) % 2 ^ 64 ≡ nearest (x over d)
+unfolding nearest
+figure-exact d pos x h =
+    let p : 0 < 2 * d = omega arith in
+    rw (mixed-exact d pos x (omega arith)) (mod-eq-of-lt (div-lt-iff-lt-mul p .1 (omega arith)))
+
 module _ (d : ℕ) (pos : 0 < d) (f : ℕ → ℕ) where
   added : (n : ℕ) → addedTo d n f ≡ mixedOf d (sumTo n f)
   unfolding addedTo sumTo
@@ -35,11 +42,9 @@ module _ (d : ℕ) (pos : 0 < d) (f : ℕ → ℕ) where
   added (suc n) = rw (added n) (mixed-plus d pos (sumTo n f) (f n))
 
   exact : (n : ℕ) → sumTo n f + d < 2 ^ 64 * d → Exact d n f
-  unfolding nearest
   exact n h =
-      let s : partsIn d (addedTo d n f) ≡ sumTo n f = ap (partsIn d) (added n) ∙ mixed-exact d pos (sumTo n f) (omega arith) in
-      let p : 0 < 2 * d = omega arith in
-      record { sum = s; figure = rw s (mod-eq-of-lt (div-lt-iff-lt-mul p .1 (omega arith))) }
+      let m = added n in
+      record { sum = ap (partsIn d) m ∙ mixed-exact d pos (sumTo n f) (omega arith); figure = rw m (figure-exact d pos (sumTo n f) h) }
 
   full : (most : ℕ) → 1023 * most + d < 2 ^ 64 * d → (n : ℕ) → n ≤ 1023 → ((i : ℕ) → i < n → f i ≤ most) → Exact d n f
   full most h n l b = exact n (omega (arith, sumTo-bound most f n b, mul-le-mul l (le-refl most)))

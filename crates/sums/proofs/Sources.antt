@@ -5,7 +5,7 @@ use native.Mathlib.Nat.{lt-of-le-of-lt}
 use lib.Dec.{lit<}
 use Rattle.sums.specs.Fraction.{Frac, _over_, _≈_, partsOf}
 use Rattle.sums.specs.Figures.{annualDenominator, peakDenominator, tonneParts, gramParts, annualParts, peakParts}
-use Rattle.sums.specs.Answer.{emitted}
+use Rattle.sums.specs.Answer.{Contribution, emitted}
 use Rattle.sums.specs.declared.answer.Emission.{Emission}
 use Rattle.sums.proofs.Exact.{annualMost, peakMost}
 use Rattle.sums.proofs.Fractions.{parts}
@@ -29,8 +29,8 @@ pub record Exactly (e : Emission) (tonnes rate : Frac) : Type 0 where
   pub annual : tonnes ≈ (annualParts (e .annual) over tonneParts)
   pub peak : rate ≈ (peakParts (e .peak) over gramParts)
 
-pub exactly : {tonnes rate : Frac} {a p : ℕ} (code : ℕ) → Counted tonnes rate a p → Bounded tonnes rate → Exactly (emitted code tonnes rate) tonnes rate
-exactly code e b = record {
+pub exactly : (x : Contribution) {a p : ℕ} → Counted (x .tonnes) (x .rate) a p → Bounded (x .tonnes) (x .rate) → Exactly (emitted x) (x .tonnes) (x .rate)
+exactly x e b = record {
   annual = rw (mixed-exact annualDenominator (lit< tt) _ (lt-of-le-of-lt (b .annual) (lit< tt)), parts (e .annual)) (e .annual);
   peak = rw (mixed-exact peakDenominator (lit< tt) _ (lt-of-le-of-lt (b .peak) (lit< tt)), parts (e .peak)) (e .peak);
 }

@@ -12,9 +12,18 @@ accepted = record { number = 0; slot = 0 }
 abbrev pub refusedBy : ℕ → Verdict
 refusedBy n = record { number = n; slot = 0 }
 
--- what a source gives to the code: so many tonnes a year, so many grams per second at the peak, exactly (`proofs/Sources`)
-abbrev pub emitted : ℕ → Frac → Frac → Emission
-emitted code tonnes rate = record { code = code; annual = annualSum tonnes; peak = peakSum rate }
+-- what a source gives to a code: so many tonnes a year, so many grams per second at the peak
+pub record Contribution : Type 0 where
+  pub code : ℕ
+  pub tonnes : Frac
+  pub rate : Frac
+
+abbrev pub contribution : ℕ → Frac → Frac → Contribution
+contribution c t r = record { code = c; tonnes = t; rate = r }
+
+-- the same in exact units, of which it drops nothing (`proofs/Sources`)
+abbrev pub emitted : Contribution → Emission
+emitted x = record { code = x .code; annual = annualSum (x .tonnes); peak = peakSum (x .rate) }
 
 abbrev pub noEmission : Emission
 noEmission = record { code = 0; annual = annualOf 0; peak = peakOf 0 }

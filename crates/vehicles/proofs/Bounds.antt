@@ -15,7 +15,7 @@ use Rattle.sums.proofs.Choices.{sumTo-bound, listTo-at}
 use Rattle.sums.proofs.Products.{_⊗_}
 use Rattle.sums.proofs.Sources.{Bounded, bounded, Exactly, exactly}
 use Rattle.vehicles.specs.Fields.{distancesInRange, groupInRange, coefficientsInRange, noCoefficients}
-use Rattle.vehicles.specs.Rules.{controlOf, codeOf, annualTonnes, peakGrams, lowestOf, emissionOf, emissionsOf, inRange, notZero, groupAnswer}
+use Rattle.vehicles.specs.Rules.{controlOf, annualTonnes, peakGrams, lowestOf, contributionOf, emissionOf, emissionsOf, inRange, notZero, groupAnswer}
 use Rattle.vehicles.specs.Parts.{conditionsAt, conditionsOf, noConditions, ConditionsInRange, YearInRange, runAndIdleParts, outParts, dayParts, monthParts, yearParts}
 use Rattle.vehicles.specs.declared.group.Distances.{Distances}
 use Rattle.vehicles.specs.declared.group.Group.{Group}
@@ -60,7 +60,7 @@ module _ (g : Group) (ts : List ℤ) (k : Coefficients) (hg : groupInRange g ≡
 
   emission-exactly : Exactly (emissionOf g ts k p) (annualTonnes g ts k (controlOf g p)) (peakGrams g k (controlOf g p) (lowestOf ts))
   unfolding emissionOf
-  emission-exactly = exactly (codeOf (g .fuel) p) (counted g ts k p) group-bounded
+  emission-exactly = exactly (contributionOf g ts k p) (counted g ts k p) group-bounded
 
 -- each of the six emissions of a group that is not refused
 pub group-exactly : (g : Group) (ts : List ℤ) (ks : List Coefficients) → inRange g ts ks ≡ true → notZero g ks ≡ false → (p : ℕ) → p < 6 →

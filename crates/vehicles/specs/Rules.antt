@@ -8,7 +8,7 @@ use lib.ListN.{getD, replicate}
 use lib.Signed.{ltZ}
 use Rattle.sums.specs.Choice.{if_then_else, allOf, listTo}
 use Rattle.sums.specs.Fraction.{Frac, _over_, whole, _⊙_, _⊞_, _per_, totalTo}
-use Rattle.sums.specs.Answer.{accepted, refusedBy, emitted, noEmission}
+use Rattle.sums.specs.Answer.{Contribution, contribution, accepted, refusedBy, emitted, noEmission}
 use Rattle.sums.specs.declared.answer.Emission.{Emission}
 use Rattle.vehicles.specs.Fields.{minus, noMinute, noKilometre, noCoefficients, groupInRange, temperaturesInRange, allInRange, allZero}
 use Rattle.vehicles.specs.declared.group.Distances.{Distances}
@@ -119,8 +119,11 @@ unfoldable pub codeOf : ℕ → ℕ → ℕ
 codeOf fuel p = if_then_else (eqb fuel 1) (getD petrolCodes p 0) (getD dieselCodes p 0)
 
 -- what a group gives of the pollutant at place p, which has the coefficients k
+abbrev pub contributionOf : Group → List ℤ → Coefficients → ℕ → Contribution
+contributionOf g ts k p = contribution (codeOf (g .fuel) p) (annualTonnes g ts k (controlOf g p)) (peakGrams g k (controlOf g p) (lowestOf ts))
+
 unfoldable pub emissionOf : Group → List ℤ → Coefficients → ℕ → Emission
-emissionOf g ts k p = emitted (codeOf (g .fuel) p) (annualTonnes g ts k (controlOf g p)) (peakGrams g k (controlOf g p) (lowestOf ts))
+emissionOf g ts k p = emitted (contributionOf g ts k p)
 
 -- of the six pollutants, each with its own coefficients
 unfoldable pub emissionsOf : Group → List ℤ → List Coefficients → List Emission

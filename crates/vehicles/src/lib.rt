@@ -15,6 +15,7 @@ pub use group::all_zero;
 pub use group::coefficients_in_range;
 pub use group::group_in_range;
 pub use rule::GroupAnswer;
+pub use rule::forbidden_soot_or_lead;
 pub use rule::group_emissions;
 pub use temperature::temperatures_in_range;
 pub use units::Metres;

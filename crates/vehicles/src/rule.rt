@@ -122,7 +122,8 @@ fn in_range(g: Group, ts: [i16; 12], ks: [Coefficients; 6]) -> bool
     group::group_in_range(g) & temperature::temperatures_in_range(ts) & group::all_in_range(ks)
 }
 
-fn is_not_zero(g: Group, ks: [Coefficients; 6]) -> bool
+// Whether the soot of a petrol group, or the lead of a diesel one, is not zero throughout.
+pub fn forbidden_soot_or_lead(g: Group, ks: [Coefficients; 6]) -> bool
     ensures { λ r. ⌜ r ≡ notZero g ks ⌝ }
 {
     ((g.fuel == 1) & !group::all_zero(ks[3])) | ((g.fuel == 2) & !group::all_zero(ks[5]))
@@ -141,7 +142,7 @@ pub fn group_emissions(g: Group, ts: [i16; 12], ks: [Coefficients; 6]) -> GroupA
     ensures { λ r. ⌜ r ≡ groupAnswer g ts ks ⌝ }
 {
     if in_range(g, ts, ks) {
-        if is_not_zero(g, ks) {
+        if forbidden_soot_or_lead(g, ks) {
             refuse(11)
         } else {
             GroupAnswer {

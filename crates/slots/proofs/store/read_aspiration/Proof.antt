@@ -2,12 +2,12 @@
 use borrow.Author.Needs.{needs}
 use mathlib.Core.Path.{_∙_, sym, refl}
 use Rattle.sums.proofs.Choices.{yes, no}
-use Rattle.slots.specs.Layout.{readAspiration}
+use Rattle.slots.specs.Layout.{readBy}
 use Rattle.slots.proofs.store.read_aspiration.Statement.{statement}
 use Rattle.slots.proofs.store.read_aspiration.Tie as tie
 
 pub read-aspiration-spec : {M : Type 1} → statement M
-unfolding readAspiration
+unfolding readBy
 read-aspiration-spec =
     tie.close
     (tie.spec (search needs) (search needs) (λ c. yes _ _ _ _ (sym (rw (c .before .before .aspiration-of .ensures) at (c .before .aspiration-good .ensures)) ∙ c .if1 .taken) (rw (c .before .before .aspiration-of .ensures))) (λ c. no _ _ _ _ (sym (rw (c .before .before .aspiration-of .ensures) at (c .before .aspiration-good .ensures)) ∙ c .if1 .left) refl))

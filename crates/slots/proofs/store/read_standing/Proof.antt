@@ -2,12 +2,12 @@
 use borrow.Author.Needs.{needs}
 use mathlib.Core.Path.{_∙_, sym, refl}
 use Rattle.sums.proofs.Choices.{yes, no}
-use Rattle.slots.specs.Layout.{readStanding}
+use Rattle.slots.specs.Layout.{readBy}
 use Rattle.slots.proofs.store.read_standing.Statement.{statement}
 use Rattle.slots.proofs.store.read_standing.Tie as tie
 
 pub read-standing-spec : {M : Type 1} → statement M
-unfolding readStanding
+unfolding readBy
 read-standing-spec =
     tie.close
     (tie.spec (search needs) (search needs) (λ c. yes _ _ _ _ (sym (rw (c .before .before .standing-of .ensures) at (c .before .standing-good .ensures)) ∙ c .if1 .taken) (rw (c .before .before .standing-of .ensures))) (λ c. no _ _ _ _ (sym (rw (c .before .before .standing-of .ensures) at (c .before .standing-good .ensures)) ∙ c .if1 .left) refl))
