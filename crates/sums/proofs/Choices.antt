@@ -23,11 +23,15 @@ pub no : {A : Type 0} (t : Bool) (r a b : A) → t ≡ false → r ≡ b → r �
 unfolding if_then_else
 no t r a b h e = simp h e
 
+-- what holds of both outcomes, each by its test
+pub cases : {A : Type 0} (P : A → Type 0) (t : Bool) {a b : A} → (t ≡ true → P a) → (t ≡ false → P b) → P (if_then_else t a b)
+unfolding if_then_else
+cases P true p q = p refl
+cases P false p q = q refl
+
 -- what holds of both outcomes
 pub both : {A : Type 0} (P : A → Type 0) (t : Bool) {a b : A} → P a → P b → P (if_then_else t a b)
-unfolding if_then_else
-both P true p q = p
-both P false p q = q
+both P t p q = cases P t (λ _. p) (λ _. q)
 
 pub left : (a b : Bool) → (a && b) ≡ true → a ≡ true
 left true b h = refl
