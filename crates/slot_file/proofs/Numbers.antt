@@ -5,7 +5,7 @@ use mathlib.Core.Path.{_≡_}
 use mathlib.Core.List.{List, [], _∷_, _++_}
 use Rattle.slots.specs.Bytes.{slotOf}
 use Rattle.slots.specs.Layout.{groupRead, readStore, storeNumber}
-use Rattle.slot_file.specs.Questions.{Question, lastOf, headAsks, linkAsks, coefficientAsks, closingAsks, groupAsks, storeAsks, reachAsks, lastAsks, accepted, refused}
+use Rattle.slot_file.specs.Questions.{Question, lastOf, headAsks, linkAsks, coefficientAsks, rowsAsks, closingAsks, groupAsks, storeAsks, reachAsks, lastAsks, accepted, refused}
 use Rattle.slot_file.specs.Walk.{verdict}
 use Rattle.slot_file.specs.Meaning.{FirstNo, here, later, Refuses, at-head, at-group, at-store, at-last}
 use Rattle.slot_file.specs.Figures.{refusal, answered, answer, summed}
@@ -40,24 +40,17 @@ closing-numbered : (s : List ℕ) (g : ℕ) → Numbered (closingAsks s g)
 unfolding closingAsks
 closing-numbered s g = omega arith
 
--- the questions l, and then those of a coefficient slot
-then-coefficient : (l : List Question) (s : List ℕ) (g n : ℕ) → Numbered l → Numbered (l ++ coefficientAsks s g n)
-then-coefficient l s g n h = numbered-append l (coefficientAsks s g n) h (coefficient-numbered s g n)
+rows-numbered : (s : List ℕ) (g n : ℕ) → Numbered (rowsAsks s g n)
+unfolding rowsAsks
+rows-numbered s g zero = tt
+rows-numbered s g (suc n) = numbered-append (rowsAsks s g n) (coefficientAsks s g n) (rows-numbered s g n) (coefficient-numbered s g n)
 
 group-numbered : (s b : List ℕ) (g : ℕ) → Numbered (groupAsks s b g)
 unfolding groupAsks
 group-numbered s b g =
-    let number = groupRead (slotOf s g) .number in
-    let l = linkAsks s (lastOf b) b g number in
-    let l0 = l ++ coefficientAsks s g 0 in
-    let l1 = l0 ++ coefficientAsks s g 1 in
-    let l2 = l1 ++ coefficientAsks s g 2 in
-    let l3 = l2 ++ coefficientAsks s g 3 in
-    let l4 = l3 ++ coefficientAsks s g 4 in
-    let h1 = then-coefficient l0 s g 1 (then-coefficient l s g 0 (link-numbered s (lastOf b) b g number)) in
-    let h3 = then-coefficient l2 s g 3 (then-coefficient l1 s g 2 h1) in
-    let h5 = then-coefficient l4 s g 5 (then-coefficient l3 s g 4 h3) in
-    numbered-append (l4 ++ coefficientAsks s g 5) (closingAsks s g) h5 (closing-numbered s g)
+    let l = linkAsks s (lastOf b) b g (groupRead (slotOf s g) .number) in
+    numbered-append (l ++ rowsAsks s g 6) (closingAsks s g)
+    (numbered-append l (rowsAsks s g 6) (link-numbered s (lastOf b) b g (groupRead (slotOf s g) .number)) (rows-numbered s g 6)) (closing-numbered s g)
 
 store-numbered : (s gs b : List ℕ) (k : ℕ) → Numbered (storeAsks s gs b k)
 unfolding storeAsks

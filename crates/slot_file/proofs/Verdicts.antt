@@ -21,7 +21,7 @@ use Rattle.slot_file.proofs.Marks.{Different, different-short}
 use Rattle.slot_file.proofs.Chains.{Walks, walks, one-chain}
 
 -- question 1 keeps the slots to 1,024
-sized : (s : List ℕ) → AllYes (headAsks s) → slotCount s ≤ 1024
+pub sized : (s : List ℕ) → AllYes (headAsks s) → slotCount s ≤ 1024
 unfolding headAsks
 sized s h =
     let a = leb 64 (length s) in
@@ -30,14 +30,14 @@ sized s h =
     omega arith
 
 -- the slots of a good chain are different, and below the slot count
-groups-differ : (s b : List ℕ) (from link : ℕ) → Chain s from b link → Good (groupAsks s) b → Different (slotCount s) b
+pub groups-differ : (s b : List ℕ) (from link : ℕ) → Chain s from b link → Good (groupAsks s) b → Different (slotCount s) b
 unfolding groupAsks linkAsks
 groups-differ s [] from link c g = tt
 groups-differ s (k ∷ b) from link c g =
     let z = c .1 in
     (omega arith, ltb-true k (slotCount s) (g .0 .0), not-true (member k b) (g .0 .1 .0), groups-differ s b from k (c .2) (g .1))
 
-stores-differ : (s gs b : List ℕ) (from link : ℕ) → Different (slotCount s) gs → Chain s from b link → Good (storeAsks s gs) b → Different (slotCount s) (b ++ gs)
+pub stores-differ : (s gs b : List ℕ) (from link : ℕ) → Different (slotCount s) gs → Chain s from b link → Good (storeAsks s gs) b → Different (slotCount s) (b ++ gs)
 unfolding storeAsks linkAsks
 stores-differ s gs [] from link d c g = d
 stores-differ s gs (k ∷ b) from link d c g =

@@ -70,6 +70,11 @@ coefficientAsks s g n =
     ++ question (eqb (coefficientsRead (slotOf s (coefficientSlot s g n)) .pollutant) (n + 1)) 10 (coefficientSlot s g n)
     ∷ []
 
+-- of the first n of them
+unfoldable pub rowsAsks : List ℕ → ℕ → ℕ → List Question
+rowsAsks s g zero = []
+rowsAsks s g (suc n) = rowsAsks s g n ++ coefficientAsks s g n
+
 -- "after the sixth, next is zero (10); then 11 for the group": "the group for 11, the sixth coefficient slot where its next isn't zero"
 unfoldable pub closingAsks : List ℕ → ℕ → List Question
 closingAsks s g =
@@ -92,9 +97,7 @@ reachedBy s (g ∷ b) =
 -- all that is asked of a link g to a group, after the groups b, the last of them first
 unfoldable pub groupAsks : List ℕ → List ℕ → ℕ → List Question
 groupAsks s b g =
-    linkAsks s (lastOf b) b g (groupRead (slotOf s g) .number)
-    ++ coefficientAsks s g 0 ++ coefficientAsks s g 1 ++ coefficientAsks s g 2 ++ coefficientAsks s g 3 ++ coefficientAsks s g 4 ++ coefficientAsks s g 5
-    ++ closingAsks s g
+    linkAsks s (lastOf b) b g (groupRead (slotOf s g) .number) ++ rowsAsks s g 6 ++ closingAsks s g
 
 -- all that is asked of a link k to a store record, after the groups gs and the store records b
 unfoldable pub storeAsks : List ℕ → List ℕ → List ℕ → ℕ → List Question

@@ -1,0 +1,35 @@
+-- What a list of questions is told, by an answer at hand and along an append of lists. Assumes nothing.
+use Prim.Native.Nat.{ℕ, suc, _+_, _<_}
+use native.Mathlib.Omega.{arith}
+use mathlib.Core.Path.{_≡_, refl, sym, ap, _∙_}
+use mathlib.Core.Bool.{Bool, true, false}
+use mathlib.Core.List.{List, [], _∷_, _++_}
+use lib.ListN.{getD}
+use Rattle.sums.specs.declared.answer.Verdict.{Verdict}
+use Rattle.slot_file.specs.Questions.{Question, question, member, reachAsks}
+use Rattle.slot_file.specs.Meaning.{AllYes, FirstNo, here, later}
+use Rattle.slot_file.proofs.Marks.{marksOf, marks-member}
+use Rattle.walk.specs.Told.{Told}
+
+pub told-no : {qs : List Question} {v : Verdict} (n k : ℕ) → v ≡ record { number = n; slot = k } → (n ≡ 0 → ⊥) → FirstNo qs n k → Told qs v
+told-no n k e z f = rw e (record { all = λ y. absurd (z y); first = λ _. f })
+
+pub told-yes : {qs : List Question} {v : Verdict} → v ≡ record { number = 0; slot = 0 } → AllYes qs → Told qs v
+told-yes e a = rw e (record { all = λ _. a; first = λ z. absurd (z refl) })
+
+-- a mark says whether its slot is among those that the marks are of
+pub marked : (before : List ℕ) {marks : List Bool} (k : ℕ) {t : Bool} → marks ≡ marksOf before → (k ≡ 0 → ⊥) → k < 1024 → getD marks k false ≡ t → member k before ≡ t
+marked before k m z h e = sym (marks-member before k (omega arith) h) ∙ ap (λ (l : List Bool). getD l k false) (sym m) ∙ e
+
+-- what the questions qs are told, all of them are: those before qs were answered yes
+pub record Rest (qs whole : List Question) : Type 0 where
+  pub all : AllYes qs → AllYes whole
+  pub first : (n k : ℕ) → FirstNo qs n k → FirstNo whole n k
+
+pub rest-on : {q : Question} {qs whole : List Question} → q .answer ≡ true → Rest (q ∷ qs) whole → Rest qs whole
+rest-on e r = record { all = λ a. r .all (e, a); first = λ n k f. r .first n k (later _ _ e f) }
+
+-- the questions of one slot more
+pub reach-turn : (n m i : ℕ) (l : List ℕ) → n ≡ suc m → reachAsks n i l ≡ question (member i l) 12 i ∷ reachAsks m (i + 1) l
+unfolding reachAsks
+reach-turn n m i l e = rw e

@@ -1,0 +1,53 @@
+-- The slots passed are all reached, so the rest is told of the whole.
+use borrow.Author.Needs.{needs}
+use borrow.Author.Tests.{not-true, not-false}
+use native.Mathlib.Omega.{arith}
+use Prim.Native.Nat.{ℕ, _≤_, _+_, _-_}
+use mathlib.Core.Path.{_≡_, subst}
+use mathlib.Core.List.{List}
+use Rattle.slot_file.specs.Questions.{Question, reachAsks}
+use Rattle.slot_file.specs.Meaning.{AllYes, FirstNo, here}
+use Rattle.slot_file.proofs.Marks.{marksOf}
+use Rattle.walk.proofs.Telling.{told-no, told-yes, marked, Rest, rest-on, reach-turn}
+use Rattle.walk.proofs.questions.ask_reached.Statement.{statement}
+use Rattle.walk.proofs.questions.ask_reached.Tie as tie
+
+abbrev Inv-loop : tie.InvT-loop
+Inv-loop reached count i₀ i = (1 ≤ i) × ((l : List ℕ) → reached ≡ marksOf l → Rest (reachAsks (count - i) i l) (reachAsks (count - 1) 1 l))
+
+abbrev μ-loop : tie.MeasureT-loop
+μ-loop reached count i₀ i = count - i
+
+loop-holds : tie.Need-loop-holds Inv-loop μ-loop
+loop-holds c = (omega arith, λ l m. record { all = λ a. a; first = λ n k f. f })
+
+returns : tie.Need-returns Inv-loop μ-loop
+returns c l m =
+    let b = c .before .before .before .before in
+    let i = b .loop .i in
+    let n = b .before .args .count in
+    let e = reach-turn (n - i) (n - (i + 1)) i l (omega arith) in
+    let t = marked l i m (λ z. omega arith) (omega arith) (not-true _ (c .before .if1 .taken)) in
+    told-no 12 i (c .refuse .ensures) (omega arith) (b .loop .inv .1 l m .first 12 i (rw e (here _ _ t)))
+
+loop-again : tie.Need-loop-again Inv-loop μ-loop
+loop-again c =
+    let b = c .before .before .before in
+    let i = b .loop .i in
+    let n = b .before .args .count in (
+      omega arith,
+      λ l m.
+          let e = reach-turn (n - i) (n - (i + 1)) i l (omega arith) in
+          let t = marked l i m (λ z. omega arith) (omega arith) (not-false _ (c .if1 .left)) in
+          rest-on t (rw e at (b .loop .inv .1 l m)),
+    )
+
+returns-2 : tie.Need-returns-2 Inv-loop μ-loop
+unfolding reachAsks
+returns-2 c l m =
+    let b = c .before .before in
+    let e : b .before .args .count - b .loop .i ≡ 0 = omega arith in
+    told-yes (c .accept .ensures) (b .loop .inv .1 l m .all (rw e tt))
+
+pub ask-reached-spec : {M : Type 1} → statement M
+ask-reached-spec = tie.close (tie.spec Inv-loop μ-loop loop-holds (search needs) (search needs) (search needs) returns (search needs) (search needs) loop-again (search needs) returns-2)

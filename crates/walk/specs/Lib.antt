@@ -1,0 +1,2 @@
+-- What inner functions answer. Nothing here has to be believed.
+pub mod Told

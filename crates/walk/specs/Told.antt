@@ -1,0 +1,30 @@
+-- What a list of questions is answered by a number and a slot: 0 where each is answered yes, and else those of the first that is answered no.
+use Prim.Native.Nat.{ℕ, _+_, _-_}
+use mathlib.Core.Path.{_≡_}
+use mathlib.Core.Bool.{Bool}
+use mathlib.Core.List.{List}
+use Rattle.sums.specs.declared.answer.Verdict.{Verdict}
+use Rattle.slots.specs.Bytes.{slotOf}
+use Rattle.slots.specs.Layout.{coefficientsRead}
+use Rattle.slots.specs.declared.coefficients.CoefficientsRead.{CoefficientsRead}
+use Rattle.slot_file.specs.Sources.{coefficientSlot}
+use Rattle.slot_file.specs.Questions.{Question, linkAsks, coefficientHolder, coefficientAsks, reachAsks}
+use Rattle.slot_file.specs.Meaning.{AllYes, FirstNo}
+use Rattle.slot_file.proofs.Marks.{marksOf}
+
+pub record Told (qs : List Question) (v : Verdict) : Type 0 where
+  pub all : v .number ≡ 0 → AllYes qs
+  pub first : (v .number ≡ 0 → ⊥) → FirstNo qs (v .number) (v .slot)
+
+-- of a link, whatever sources the marks are of
+abbrev pub LinkTold : List ℕ → List Bool → ℕ → ℕ → ℕ → Verdict → Type 0
+LinkTold s marks holder k number v = (before : List ℕ) → marks ≡ marksOf before → (k ≡ 0 → ⊥) → Told (linkAsks s holder before k number) v
+
+-- of a link to the coefficient slot at place n of whatever group it is
+abbrev pub RowTold : List ℕ → ℕ → ℕ → ℕ → CoefficientsRead → Verdict → Type 0
+RowTold s holder link n row v =
+    (g : ℕ) → holder ≡ coefficientHolder s g n → link ≡ coefficientSlot s g n → row ≡ coefficientsRead (slotOf s link) → Told (coefficientAsks s g n) v
+
+-- of every slot from 1 up, whatever slots the marks are of
+abbrev pub ReachTold : List Bool → ℕ → Verdict → Type 0
+ReachTold marks count v = (l : List ℕ) → marks ≡ marksOf l → Told (reachAsks (count - 1) 1 l) v

@@ -1,0 +1,2 @@
+// The walk over a slot file: its check, and its answer.
+mod questions;

@@ -1,0 +1,122 @@
+// The questions in order: of a list of them, the number and the slot of the first that is answered no, or 0 and 0.
+ghost use mathlib.Core.Path.{_≡_};
+ghost use Prim.Native.Nat.{_+_, _-_, _≤_};
+ghost use mathlib.Core.List.{List};
+ghost use lib.ListN.{length};
+ghost use Rattle.slots.specs.Bytes.{slotOf};
+ghost use Rattle.slots.specs.Layout.{headerOf, coefficientsRead};
+ghost use Rattle.slot_file.specs.Sources.{coefficientSlot};
+ghost use Rattle.slot_file.specs.Questions.{headAsks, linkAsks, coefficientHolder, coefficientAsks, reachAsks};
+ghost use Rattle.slot_file.proofs.Marks.{marksOf};
+ghost use Rattle.walk.specs.Told.{Told, LinkTold, RowTold, ReachTold};
+use slots::CoefficientsRead;
+use slots::Header;
+use sums::Verdict;
+
+pub(crate) fn accept() -> Verdict
+    ensures { λ r. ⌜ r ≡ record { number = 0; slot = 0 } ⌝ }
+{
+    Verdict { number: 0, slot: 0 }
+}
+
+pub(crate) fn refuse(number: u8, slot: u16) -> Verdict
+    ensures { λ r. ⌜ r ≡ record { number = number; slot = slot } ⌝ }
+{
+    Verdict { number, slot }
+}
+
+// Questions 1 to 5, of the file and its slot 0.
+pub(crate) fn ask_head(file: &[u8], h: Header) -> Verdict
+    requires { ⌜ h ≡ headerOf (slotOf (now file) 0) ⌝ }
+    ensures { λ r. ⌜ Told (headAsks (now (file .entry))) r ⌝ }
+{
+    let n = file.len();
+    let whole = (64 <= n) & (n <= 65_536) & (n % 64 == 0);
+    if !whole {
+        return refuse(1, 0);
+    }
+    if h.format != 1 {
+        return refuse(2, 0);
+    }
+    if h.count as usize != n / 64 {
+        return refuse(3, 0);
+    }
+    if !h.rest {
+        return refuse(4, 0);
+    }
+    let temperatures = h.temperatures;
+    if !vehicles::temperatures_in_range(temperatures) {
+        return refuse(5, 0);
+    }
+    accept()
+}
+
+// Questions 6 to 9, of a link to a group or store record: `number` is what the slot's read answers of 8 and 9.
+pub(crate) fn ask_link(
+    file: &[u8],
+    sources: &[bool; 1024],
+    holder: u16,
+    link: u16,
+    number: u8,
+) -> Verdict
+    requires { ⌜ length (now file) ≤ 65536 ⌝ }
+    ensures { λ r. ⌜ LinkTold (now (file .entry)) (now (sources .entry)) holder link number r ⌝ }
+{
+    let k = link as usize;
+    if file.len() / 64 <= k {
+        return refuse(6, holder);
+    }
+    if sources[k] {
+        return refuse(7, link);
+    }
+    if number == 8 {
+        return refuse(8, link);
+    }
+    if number == 9 {
+        return refuse(9, link);
+    }
+    accept()
+}
+
+// Questions 10, 6, 8, 9 and 10, of a link to a group's coefficient slot at a place from 0.
+pub(crate) fn ask_row(
+    file: &[u8],
+    holder: u16,
+    link: u16,
+    place: u8,
+    row: CoefficientsRead,
+) -> Verdict
+    ensures { λ r. ⌜ RowTold (now (file .entry)) holder link place row r ⌝ }
+{
+    if link == 0 {
+        return refuse(10, holder);
+    }
+    if file.len() / 64 <= link as usize {
+        return refuse(6, holder);
+    }
+    if row.number == 8 {
+        return refuse(8, link);
+    }
+    if row.number == 9 {
+        return refuse(9, link);
+    }
+    if row.pollutant as u16 != place as u16 + 1 {
+        return refuse(10, link);
+    }
+    accept()
+}
+
+// Question 12, of each slot from 1 up.
+pub(crate) fn ask_reached(reached: &[bool; 1024], count: usize) -> Verdict
+    requires { ⌜ count ≤ 1024 ⌝ }
+    ensures { λ r. ⌜ ReachTold (now (reached .entry)) count r ⌝ }
+{
+    let mut i = 1;
+    while i < count {
+        if !reached[i] {
+            return refuse(12, i as u16);
+        }
+        i += 1;
+    }
+    accept()
+}
