@@ -1,2 +1,3 @@
 -- What inner functions answer. Nothing here has to be believed.
 pub mod Told
+pub mod Rows

@@ -1,0 +1,119 @@
+-- The rows passed stand in their places, their questions are answered yes and their slots are marked.
+use borrow.Author.Needs.{needs}
+use native.Mathlib.Omega.{arith}
+use Prim.Native.Nat.{ℕ, _≤_, _<_, _-_}
+use mathlib.Core.Path.{_≡_, refl, sym, ap, _∙_}
+use mathlib.Core.Bool.{true}
+use mathlib.Core.List.{[], _∷_}
+use native.Mathlib.Numerals.{add-one}
+use borrow.Author.Tests.{ltb-true, eq-eqb, ne-eqb}
+use lib.ListN.{getD, set, length}
+use Rattle.sums.specs.declared.answer.Verdict.{Verdict}
+use Rattle.sums.proofs.Choices.{filled, listTo-is}
+use Rattle.vehicles.specs.Fields.{noCoefficients}
+use Rattle.slots.specs.Bytes.{slotOf}
+use Rattle.slots.specs.Layout.{coefficientsRead}
+use Rattle.slots.specs.declared.coefficients.CoefficientsRead.{CoefficientsRead}
+use Rattle.slot_file.specs.Sources.{coefficientSlot, groupAt}
+use Rattle.slot_file.specs.Questions.{slotCount, coefficientHolder, coefficientAsks, rowsAsks}
+use Rattle.slot_file.specs.Meaning.{AllYes, here}
+use Rattle.walk.specs.Rows.{afterSixth, marksTo}
+use Rattle.walk.proofs.Telling.{told-no, told-yes}
+use Rattle.walk.proofs.SixRows.{all-append, no-before, no-after, rows-yes, rows-no}
+use Rattle.walk.proofs.rows.read_rows.Statement.{statement}
+use Rattle.walk.proofs.rows.read_rows.Tie as tie
+
+abbrev Inv-loop : tie.InvT-loop
+Inv-loop file reached₀ g first coefficients₀ holder₀ link₀ n₀ reached coefficients holder link n =
+    (n ≤ 6) × (length coefficients ≡ 6) × AllYes (rowsAsks file g n) × (holder ≡ coefficientHolder file g n) × (link ≡ coefficientSlot file g n)
+    × (reached ≡ marksTo file g reached₀ n)
+    × ((m : ℕ) → m < n → getD coefficients m noCoefficients ≡ coefficientsRead (slotOf file (coefficientSlot file g m)) .coefficients)
+
+abbrev μ-loop : tie.MeasureT-loop
+μ-loop file reached₀ g first coefficients₀ holder₀ link₀ n₀ reached coefficients holder link n = 6 - n
+
+loop-holds : tie.Need-loop-holds Inv-loop μ-loop
+unfolding rowsAsks coefficientHolder coefficientSlot marksTo
+loop-holds c = (search needs, search needs, tt, refl, c .before .before .pre .1, refl, λ m q. absurd (omega arith))
+
+returns : tie.Need-returns Inv-loop μ-loop
+returns c =
+    let b = c .before .before .before .before .before in
+    let a = b .before .before .before .args in
+    let s = a .file .now in
+    let told = c .before .before .ask-row .ensures (a .g) (b .loop .inv .3) (b .loop .inv .4) (c .before .before .before .row-at .ensures) in
+    record {
+      told = record {
+        all = λ z. absurd (c .if1 .taken z);
+        first = λ z. no-before (rowsAsks s (a .g) 6) (afterSixth s (a .g) ∷ []) (rows-no s (a .g) 6 (b .loop .n) (search needs) (b .loop .inv .2) (told .first z));
+      };
+      coefficients = λ z. absurd (c .if1 .taken z);
+      marks = λ z. absurd (c .if1 .taken z);
+    }
+
+element-write-reached : tie.Need-element-write-reached Inv-loop μ-loop
+unfolding coefficientAsks
+element-write-reached c =
+    let b = c .before .before .before .before .before .before .before in
+    let a = b .before .before .before .args in
+    let told = c .before .before .before .before .ask-row .ensures (a .g) (b .loop .inv .3) (b .loop .inv .4) (c .before .before .before .before .before .row-at .ensures) in
+    let l = ltb-true (coefficientSlot (a .file .now) (a .g) (b .loop .n)) (slotCount (a .file .now)) (told .all (c .before .before .if1 .left) .1 .0) in
+    omega (arith, l, b .loop .inv .4)
+
+loop-again : tie.Need-loop-again Inv-loop μ-loop
+unfolding coefficientHolder coefficientSlot marksTo
+loop-again c =
+    let b = c .before .before .before .before .before .before .before in
+    let a = b .before .before .before .args in
+    let s = a .file .now in
+    let row = c .before .before .before .before .before .row-at .ensures in
+    let told = c .before .before .before .before .ask-row .ensures (a .g) (b .loop .inv .3) (b .loop .inv .4) row in
+    let e = b .loop .inv .4 in (
+      search needs,
+      search needs,
+      rows-yes s (a .g) (b .loop .n) (b .loop .inv .2) (told .all (c .before .before .if1 .left)),
+      rw add-one e,
+      rw add-one (ap (λ (r : CoefficientsRead). r .next) row ∙ ap (λ (k : ℕ). coefficientsRead (slotOf s k) .next) e),
+      rw (add-one, c .slot-index .ensures) (λ i. set (b .loop .inv .5 i) (e i) true),
+      filled noCoefficients (b .loop .coefficients) (b .loop .n) _ (λ (m : ℕ). coefficientsRead (slotOf s (coefficientSlot s (a .g) m)) .coefficients)
+          (search needs) (b .loop .inv .6)
+          (ap (λ (r : CoefficientsRead). r .coefficients) row ∙ ap (λ (k : ℕ). coefficientsRead (slotOf s k) .coefficients) e),
+    )
+
+returns-2 : tie.Need-returns-2 Inv-loop μ-loop
+unfolding coefficientHolder
+returns-2 c =
+    let b = c .before .before .before in
+    let a = b .before .before .before .args in
+    let s = a .file .now in
+    let n : b .loop .n ≡ 6 = omega arith in
+    let z : coefficientSlot s (a .g) 6 ≡ 0 → ⊥ = λ z. c .before .if2 .taken (rw n at (b .loop .inv .4) ∙ z) in
+    let v : c .refuse .result .number ≡ 0 → ⊥ = λ y. omega (arith, y, ap (λ (v : Verdict). v .number) (c .refuse .ensures)) in
+    record {
+      told = told-no 10 (coefficientSlot s (a .g) 5) (c .refuse .ensures ∙ ap (λ (k : ℕ). record { number = 10; slot = k }) (rw n at (b .loop .inv .3))) (omega arith)
+          (no-after (rowsAsks s (a .g) 6) (afterSixth s (a .g) ∷ []) (rw n at (b .loop .inv .2)) (here _ _ (ne-eqb _ 0 z)));
+      coefficients = λ y. absurd (v y);
+      marks = λ y. absurd (v y);
+    }
+
+returns-3 : tie.Need-returns-3 Inv-loop μ-loop
+unfolding groupAt
+returns-3 c =
+    let b = c .before .before .before in
+    let a = b .before .before .before .args in
+    let s = a .file .now in
+    let n : b .loop .n ≡ 6 = omega arith in
+    let z : coefficientSlot s (a .g) 6 ≡ 0 = sym (rw n at (b .loop .inv .4)) ∙ c .before .if2 .left in
+    record {
+      told = told-yes (c .accept .ensures) (all-append (rowsAsks s (a .g) 6) (afterSixth s (a .g) ∷ []) (rw n at (b .loop .inv .2)) (eq-eqb _ 0 z, tt));
+      coefficients = λ _.
+          listTo-is noCoefficients 6 (b .loop .coefficients) (λ (m : ℕ). coefficientsRead (slotOf s (coefficientSlot s (a .g) m)) .coefficients) (b .loop .inv .1)
+          (rw n at (b .loop .inv .6));
+      marks = λ _. rw n at (b .loop .inv .5);
+    }
+
+pub read-rows-spec : {M : Type 1} → statement M
+read-rows-spec =
+    tie.close
+    (tie.spec Inv-loop μ-loop (search needs) loop-holds (search needs) (search needs) returns (search needs) (search needs) (search needs) (search needs)
+    element-write-reached (search needs) (search needs) loop-again (search needs) returns-2 (search needs) returns-3)

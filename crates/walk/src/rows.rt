@@ -1,0 +1,79 @@
+// A group's six coefficient slots.
+ghost use mathlib.Core.Path.{_≡_};
+ghost use Prim.Native.Nat.{_≤_};
+ghost use lib.ListN.{length};
+ghost use Rattle.slots.specs.Bytes.{slotOf};
+ghost use Rattle.slots.specs.Layout.{groupRead, coefficientsRead};
+ghost use Rattle.walk.specs.Rows.{noRow, RowsRead};
+use super::questions;
+use slots::CoefficientsRead;
+use sums::Verdict;
+use vehicles::Coefficients;
+use vehicles::PerKilometre;
+use vehicles::PerMinute;
+
+// What the coefficient links were told, and the six rows of coefficients.
+pub(crate) struct Rows {
+    pub(crate) verdict: Verdict,
+    pub(crate) coefficients: [Coefficients; 6],
+}
+
+fn slot_index(link: u16) -> usize
+    ensures { λ r. ⌜ r ≡ link ⌝ }
+{
+    link as usize
+}
+
+fn no_row() -> Coefficients
+    ensures { λ r. ⌜ r ≡ noRow ⌝ }
+{
+    Coefficients {
+        warmup: [PerMinute(0); 3],
+        run: [PerKilometre(0); 3],
+        idle: PerMinute(0),
+    }
+}
+
+fn row_at(file: &[u8], link: u16) -> CoefficientsRead
+    ensures { λ r. ⌜ r ≡ coefficientsRead (slotOf (now (file .entry)) link) ⌝ }
+{
+    let t = slots::slot_at(file, link as usize);
+    slots::read_coefficients(&t)
+}
+
+// The coefficient links of the group g, from `first` on; each slot is marked as reached.
+pub(crate) fn read_rows(file: &[u8], reached: &mut [bool; 1024], g: u16, first: u16) -> Rows
+    requires { ⌜ (length (now file) ≤ 65536) × (first ≡ groupRead (slotOf (now file) g) .first) ⌝ }
+    ensures { λ r. ⌜ RowsRead (now (file .entry)) g (now (reached .entry)) (now (reached .exit)) r ⌝ }
+{
+    let mut coefficients = [no_row(); 6];
+    let mut holder = g;
+    let mut link = first;
+    let mut n: u8 = 0;
+    while n < 6 {
+        let row = row_at(file, link);
+        let verdict = questions::ask_row(file, holder, link, n, row);
+        if verdict.number != 0 {
+            return Rows {
+                verdict,
+                coefficients,
+            };
+        }
+        let k = row.coefficients;
+        coefficients[n as usize] = k;
+        reached[slot_index(link)] = true;
+        holder = link;
+        link = row.next;
+        n += 1;
+    }
+    if link != 0 {
+        return Rows {
+            verdict: questions::refuse(10, holder),
+            coefficients,
+        };
+    }
+    Rows {
+        verdict: questions::accept(),
+        coefficients,
+    }
+}
