@@ -1,3 +1,4 @@
 -- The laws that belong to no one function.
 pub mod Telling
 pub mod SixRows
+pub mod GroupAsks

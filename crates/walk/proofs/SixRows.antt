@@ -4,22 +4,10 @@ use native.Mathlib.Omega.{arith}
 use native.Mathlib.Decide.{decLt}
 use native.Mathlib.Numerals.{add-one}
 use mathlib.Core.Path.{_≡_}
-use mathlib.Core.List.{List, [], _∷_, _++_}
-use Rattle.slot_file.specs.Questions.{Question, coefficientAsks, rowsAsks}
-use Rattle.slot_file.specs.Meaning.{AllYes, FirstNo, here, later}
-
--- along an append of lists
-pub all-append : (xs ys : List Question) → AllYes xs → AllYes ys → AllYes (xs ++ ys)
-all-append [] ys a b = b
-all-append (x ∷ xs) ys a b = (a .0, all-append xs ys (a .1) b)
-
-pub no-before : {n k : ℕ} (xs ys : List Question) → FirstNo xs n k → FirstNo (xs ++ ys) n k
-no-before xs ys (here q qs e) = here q (qs ++ ys) e
-no-before xs ys (later q qs e f) = later q (qs ++ ys) e (no-before qs ys f)
-
-pub no-after : {n k : ℕ} (xs ys : List Question) → AllYes xs → FirstNo ys n k → FirstNo (xs ++ ys) n k
-no-after [] ys a f = f
-no-after (x ∷ xs) ys a f = later x (xs ++ ys) (a .0) (no-after xs ys (a .1) f)
+use mathlib.Core.List.{List}
+use Rattle.slot_file.specs.Questions.{coefficientAsks, rowsAsks}
+use Rattle.slot_file.specs.Meaning.{AllYes, FirstNo}
+use Rattle.walk.proofs.Telling.{all-append, no-before, no-after}
 
 module _ (s : List ℕ) (g : ℕ) where
   pub rows-yes : (n : ℕ) → AllYes (rowsAsks s g n) → AllYes (coefficientAsks s g n) → AllYes (rowsAsks s g (n + 1))

@@ -17,6 +17,28 @@ told-no n k e z f = rw e (record { all = λ y. absurd (z y); first = λ _. f })
 pub told-yes : {qs : List Question} {v : Verdict} → v ≡ record { number = 0; slot = 0 } → AllYes qs → Told qs v
 told-yes e a = rw e (record { all = λ _. a; first = λ z. absurd (z refl) })
 
+pub not-refused : {v : Verdict} (n k : ℕ) → v ≡ record { number = n; slot = k } → (n ≡ 0 → ⊥) → v .number ≡ 0 → ⊥
+not-refused n k e z y = z (sym (ap (λ (v : Verdict). v .number) e) ∙ y)
+
+-- along an append of lists
+pub all-append : (xs ys : List Question) → AllYes xs → AllYes ys → AllYes (xs ++ ys)
+all-append [] ys a b = b
+all-append (x ∷ xs) ys a b = (a .0, all-append xs ys (a .1) b)
+
+pub no-before : {n k : ℕ} (xs ys : List Question) → FirstNo xs n k → FirstNo (xs ++ ys) n k
+no-before xs ys (here q qs e) = here q (qs ++ ys) e
+no-before xs ys (later q qs e f) = later q (qs ++ ys) e (no-before qs ys f)
+
+pub no-after : {n k : ℕ} (xs ys : List Question) → AllYes xs → FirstNo ys n k → FirstNo (xs ++ ys) n k
+no-after [] ys a f = f
+no-after (x ∷ xs) ys a f = later x (xs ++ ys) (a .0) (no-after xs ys (a .1) f)
+
+pub told-before : {v : Verdict} (xs ys : List Question) → Told xs v → (v .number ≡ 0 → ⊥) → Told (xs ++ ys) v
+told-before xs ys t z = record { all = λ y. absurd (z y); first = λ _. no-before xs ys (t .first z) }
+
+pub told-after : {v : Verdict} (xs ys : List Question) → AllYes xs → Told ys v → Told (xs ++ ys) v
+told-after xs ys a t = record { all = λ y. all-append xs ys a (t .all y); first = λ z. no-after xs ys a (t .first z) }
+
 -- a mark says whether its slot is among those that the marks are of
 pub marked : (before : List ℕ) {marks : List Bool} (k : ℕ) {t : Bool} → marks ≡ marksOf before → (k ≡ 0 → ⊥) → k < 1024 → getD marks k false ≡ t → member k before ≡ t
 marked before k m z h e = sym (marks-member before k (omega arith) h) ∙ ap (λ (l : List Bool). getD l k false) (sym m) ∙ e

@@ -1,5 +1,5 @@
 -- What a list of questions is answered by a number and a slot: 0 where each is answered yes, and else those of the first that is answered no.
-use Prim.Native.Nat.{ℕ, _+_, _-_}
+use Prim.Native.Nat.{ℕ, _<_, _-_}
 use mathlib.Core.Path.{_≡_}
 use mathlib.Core.Bool.{Bool}
 use mathlib.Core.List.{List}
@@ -8,7 +8,7 @@ use Rattle.slots.specs.Bytes.{slotOf}
 use Rattle.slots.specs.Layout.{coefficientsRead}
 use Rattle.slots.specs.declared.coefficients.CoefficientsRead.{CoefficientsRead}
 use Rattle.slot_file.specs.Sources.{coefficientSlot}
-use Rattle.slot_file.specs.Questions.{Question, linkAsks, coefficientHolder, coefficientAsks, reachAsks}
+use Rattle.slot_file.specs.Questions.{Question, slotCount, linkAsks, coefficientHolder, coefficientAsks, reachAsks}
 use Rattle.slot_file.specs.Meaning.{AllYes, FirstNo}
 use Rattle.slot_file.proofs.Marks.{marksOf}
 
@@ -17,8 +17,9 @@ pub record Told (qs : List Question) (v : Verdict) : Type 0 where
   pub first : (v .number ≡ 0 → ⊥) → FirstNo qs (v .number) (v .slot)
 
 -- of a link, whatever sources the marks are of
-abbrev pub LinkTold : List ℕ → List Bool → ℕ → ℕ → ℕ → Verdict → Type 0
-LinkTold s marks holder k number v = (before : List ℕ) → marks ≡ marksOf before → (k ≡ 0 → ⊥) → Told (linkAsks s holder before k number) v
+pub record LinkTold (s : List ℕ) (marks : List Bool) (holder k number : ℕ) (v : Verdict) : Type 0 where
+  pub told : (before : List ℕ) → marks ≡ marksOf before → (k ≡ 0 → ⊥) → Told (linkAsks s holder before k number) v
+  pub below : v .number ≡ 0 → k < slotCount s
 
 -- of a link to the coefficient slot at place n of whatever group it is
 abbrev pub RowTold : List ℕ → ℕ → ℕ → ℕ → CoefficientsRead → Verdict → Type 0

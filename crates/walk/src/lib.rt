@@ -1,3 +1,4 @@
 // The walk over a slot file: its check, and its answer.
+mod groups;
 mod questions;
 mod rows;

@@ -18,7 +18,7 @@ pub(crate) struct Rows {
     pub(crate) coefficients: [Coefficients; 6],
 }
 
-fn slot_index(link: u16) -> usize
+pub(crate) fn slot_index(link: u16) -> usize
     ensures { λ r. ⌜ r ≡ link ⌝ }
 {
     link as usize
@@ -41,12 +41,16 @@ fn row_at(file: &[u8], link: u16) -> CoefficientsRead
     slots::read_coefficients(&t)
 }
 
+pub(crate) fn no_rows() -> [Coefficients; 6] {
+    [no_row(); 6]
+}
+
 // The coefficient links of the group g, from `first` on; each slot is marked as reached.
 pub(crate) fn read_rows(file: &[u8], reached: &mut [bool; 1024], g: u16, first: u16) -> Rows
     requires { ⌜ (length (now file) ≤ 65536) × (first ≡ groupRead (slotOf (now file) g) .first) ⌝ }
     ensures { λ r. ⌜ RowsRead (now (file .entry)) g (now (reached .entry)) (now (reached .exit)) r ⌝ }
 {
-    let mut coefficients = [no_row(); 6];
+    let mut coefficients = no_rows();
     let mut holder = g;
     let mut link = first;
     let mut n: u8 = 0;

@@ -8,7 +8,6 @@ use mathlib.Core.List.{[], _∷_}
 use native.Mathlib.Numerals.{add-one}
 use borrow.Author.Tests.{ltb-true, eq-eqb, ne-eqb}
 use lib.ListN.{getD, set, length}
-use Rattle.sums.specs.declared.answer.Verdict.{Verdict}
 use Rattle.sums.proofs.Choices.{filled, listTo-is}
 use Rattle.vehicles.specs.Fields.{noCoefficients}
 use Rattle.slots.specs.Bytes.{slotOf}
@@ -18,8 +17,8 @@ use Rattle.slot_file.specs.Sources.{coefficientSlot, groupAt}
 use Rattle.slot_file.specs.Questions.{slotCount, coefficientHolder, coefficientAsks, rowsAsks}
 use Rattle.slot_file.specs.Meaning.{AllYes, here}
 use Rattle.walk.specs.Rows.{afterSixth, marksTo}
-use Rattle.walk.proofs.Telling.{told-no, told-yes}
-use Rattle.walk.proofs.SixRows.{all-append, no-before, no-after, rows-yes, rows-no}
+use Rattle.walk.proofs.Telling.{told-no, told-yes, not-refused, all-append, no-before, no-after}
+use Rattle.walk.proofs.SixRows.{rows-yes, rows-no}
 use Rattle.walk.proofs.rows.read_rows.Statement.{statement}
 use Rattle.walk.proofs.rows.read_rows.Tie as tie
 
@@ -88,7 +87,7 @@ returns-2 c =
     let s = a .file .now in
     let n : b .loop .n ≡ 6 = omega arith in
     let z : coefficientSlot s (a .g) 6 ≡ 0 → ⊥ = λ z. c .before .if2 .taken (rw n at (b .loop .inv .4) ∙ z) in
-    let v : c .refuse .result .number ≡ 0 → ⊥ = λ y. omega (arith, y, ap (λ (v : Verdict). v .number) (c .refuse .ensures)) in
+    let v = not-refused 10 (b .loop .holder) (c .refuse .ensures) (omega arith) in
     record {
       told = told-no 10 (coefficientSlot s (a .g) 5) (c .refuse .ensures ∙ ap (λ (k : ℕ). record { number = 10; slot = k }) (rw n at (b .loop .inv .3))) (omega arith)
           (no-after (rowsAsks s (a .g) 6) (afterSixth s (a .g) ∷ []) (rw n at (b .loop .inv .2)) (here _ _ (ne-eqb _ 0 z)));

@@ -1,0 +1,26 @@
+-- What one step along a chain answers.
+use Prim.Native.Nat.{ℕ}
+use mathlib.Core.Path.{_≡_}
+use mathlib.Core.Bool.{Bool, true}
+use mathlib.Core.List.{List}
+use lib.ListN.{set}
+use Rattle.slots.specs.Bytes.{slotOf}
+use Rattle.slots.specs.Layout.{nextOf}
+use Rattle.slot_file.specs.Sources.{groupAt}
+use Rattle.slot_file.specs.Questions.{lastOf, groupAsks}
+use Rattle.slot_file.proofs.Marks.{marksOf}
+use Rattle.walk.specs.Told.{Told}
+use Rattle.walk.specs.Rows.{marksTo}
+use Rattle.walk.specs.declared.groups.GroupStep.{GroupStep}
+
+-- a group that nothing is refused of, and the marks after it
+pub record GroupPassed (s : List ℕ) (g : ℕ) (sources sources′ reached reached′ : List Bool) (r : GroupStep) : Type 0 where
+  pub group : r .group ≡ groupAt s g .group
+  pub coefficients : r .coefficients ≡ groupAt s g .coefficients
+  pub next : r .next ≡ nextOf (slotOf s g)
+  pub source-marked : sources′ ≡ set sources g true
+  pub slots-marked : reached′ ≡ marksTo s g (set reached g true) 6
+
+pub record GroupStepped (s : List ℕ) (holder g : ℕ) (sources sources′ reached reached′ : List Bool) (r : GroupStep) : Type 0 where
+  pub told : (b : List ℕ) → sources ≡ marksOf b → holder ≡ lastOf b → Told (groupAsks s b g) (r .verdict)
+  pub passed : r .verdict .number ≡ 0 → GroupPassed s g sources sources′ reached reached′ r

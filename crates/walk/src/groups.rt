@@ -1,0 +1,80 @@
+// The group chain.
+ghost use mathlib.Core.Path.{_≡_};
+ghost use Prim.Native.Nat.{_≤_};
+ghost use lib.ListN.{length};
+ghost use Rattle.slots.specs.Bytes.{slotOf};
+ghost use Rattle.slots.specs.Layout.{groupRead};
+ghost use Rattle.walk.specs.Steps.{GroupStepped};
+use super::questions;
+use super::rows;
+use slots::GroupRead;
+use sums::Verdict;
+use vehicles::Coefficients;
+use vehicles::Group;
+
+// What a link to a group was told, the group with its coefficients, and the next link.
+pub(crate) struct GroupStep {
+    pub(crate) verdict: Verdict,
+    pub(crate) group: Group,
+    pub(crate) coefficients: [Coefficients; 6],
+    pub(crate) next: u16,
+}
+
+fn group_at(file: &[u8], link: u16) -> GroupRead
+    ensures { λ r. ⌜ r ≡ groupRead (slotOf (now (file .entry)) link) ⌝ }
+{
+    let t = slots::slot_at(file, link as usize);
+    slots::read_group(&t)
+}
+
+// All that is asked of a link to a group. The group's slot is marked as a source, and it and its coefficient slots as reached.
+fn step_group(
+    file: &[u8],
+    sources: &mut [bool; 1024],
+    reached: &mut [bool; 1024],
+    holder: u16,
+    link: u16,
+) -> GroupStep
+    requires { ⌜ (length (now file) ≤ 65536) × (link ≡ 0 → ⊥) ⌝ }
+    ensures { λ r. ⌜ GroupStepped (now (file .entry)) holder link (now (sources .entry)) (now (sources .exit)) (now (reached .entry)) (now (reached .exit)) r ⌝ }
+{
+    let read = group_at(file, link);
+    let group = read.group;
+    let verdict = questions::ask_link(file, sources, holder, link, read.number);
+    if verdict.number != 0 {
+        return GroupStep {
+            verdict,
+            group,
+            coefficients: rows::no_rows(),
+            next: 0,
+        };
+    }
+    let k = rows::slot_index(link);
+    sources[k] = true;
+    reached[k] = true;
+    let rows = rows::read_rows(file, reached, link, read.first);
+    let verdict = rows.verdict;
+    let coefficients = rows.coefficients;
+    if verdict.number != 0 {
+        return GroupStep {
+            verdict,
+            group,
+            coefficients,
+            next: 0,
+        };
+    }
+    if vehicles::forbidden_soot_or_lead(group, coefficients) {
+        return GroupStep {
+            verdict: questions::refuse(11, link),
+            group,
+            coefficients,
+            next: 0,
+        };
+    }
+    GroupStep {
+        verdict,
+        group,
+        coefficients,
+        next: read.next,
+    }
+}
