@@ -20,14 +20,16 @@ use Rattle.slot_file.proofs.Asking.{first-yes, first-no, first-both}
 use Rattle.slot_file.proofs.Marks.{Different, different-short}
 use Rattle.slot_file.proofs.Chains.{Walks, walks, one-chain}
 
--- question 1 keeps the slots to 1,024
-pub sized : (s : List ℕ) → AllYes (headAsks s) → slotCount s ≤ 1024
+-- question 1 keeps the bytes to 65,536 and so the slots to 1,024
+pub bytes-most : (s : List ℕ) → AllYes (headAsks s) → length s ≤ 65536
 unfolding headAsks
-sized s h =
+bytes-most s h =
     let a = leb 64 (length s) in
     let b = leb (length s) 65536 in
-    let l = leb-true (length s) 65536 (right a b (left (a && b) (eqb (length s % 64) 0) (h .0))) in
-    omega arith
+    leb-true (length s) 65536 (right a b (left (a && b) (eqb (length s % 64) 0) (h .0)))
+
+pub sized : (s : List ℕ) → AllYes (headAsks s) → slotCount s ≤ 1024
+sized s h = let l = bytes-most s h in omega arith
 
 -- the slots of a good chain are different, and below the slot count
 pub groups-differ : (s b : List ℕ) (from link : ℕ) → Chain s from b link → Good (groupAsks s) b → Different (slotCount s) b

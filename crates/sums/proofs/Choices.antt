@@ -74,6 +74,11 @@ allTo-at (suc n) f h k p =
     ⊎-elim (λ (e : k ≡ n). rw e (right (allTo n f) (f n) h)) (λ (q : k < n). allTo-at n f (left (allTo n f) (f n) h) k q)
     (eq-or-lt-of-le (le-of-suc-le-suc p))
 
+pub allTo-of : (n : ℕ) (f : ℕ → Bool) → ((k : ℕ) → k < n → f k ≡ true) → allTo n f ≡ true
+unfolding allTo
+allTo-of zero f h = refl
+allTo-of (suc n) f h = rw (allTo-of n f (λ (k : ℕ) (p : k < n). h k (omega arith)), h n (omega arith))
+
 pub sumTo-step : (n : ℕ) (f : ℕ → ℕ) → sumTo (n + 1) f ≡ sumTo n f + f n
 unfolding sumTo
 sumTo-step n f = rw add-one

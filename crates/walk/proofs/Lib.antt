@@ -2,3 +2,5 @@
 pub mod Telling
 pub mod SixRows
 pub mod GroupAsks
+pub mod Ranged
+pub mod Passing

@@ -7,7 +7,7 @@ use mathlib.Core.Path.{_≡_}
 use mathlib.Core.List.{List}
 use Rattle.slot_file.specs.Questions.{coefficientAsks, rowsAsks}
 use Rattle.slot_file.specs.Meaning.{AllYes, FirstNo}
-use Rattle.walk.proofs.Telling.{all-append, no-before, no-after}
+use Rattle.walk.proofs.Telling.{all-append, all-left, all-right, no-before, no-after}
 
 module _ (s : List ℕ) (g : ℕ) where
   pub rows-yes : (n : ℕ) → AllYes (rowsAsks s g n) → AllYes (coefficientAsks s g n) → AllYes (rowsAsks s g (n + 1))
@@ -21,4 +21,13 @@ module _ (s : List ℕ) (g : ℕ) where
       elim (decLt n m) [
         | yes l ↦ no-before (rowsAsks s g m) (coefficientAsks s g m) (rows-no m n l a f)
         | no l ↦ (let e : m ≡ n = omega arith in rw e (no-after (rowsAsks s g n) (coefficientAsks s g n) a f))
+      ]
+
+  pub row-yes : (m n : ℕ) → n < m → AllYes (rowsAsks s g m) → AllYes (coefficientAsks s g n)
+  unfolding rowsAsks
+  row-yes zero n h a = absurd (omega arith)
+  row-yes (suc m) n h a =
+      elim (decLt n m) [
+        | yes l ↦ row-yes m n l (all-left (rowsAsks s g m) (coefficientAsks s g m) a)
+        | no l ↦ (let e : m ≡ n = omega arith in rw e at (all-right (rowsAsks s g m) (coefficientAsks s g m) a))
       ]

@@ -25,6 +25,14 @@ pub all-append : (xs ys : List Question) → AllYes xs → AllYes ys → AllYes 
 all-append [] ys a b = b
 all-append (x ∷ xs) ys a b = (a .0, all-append xs ys (a .1) b)
 
+pub all-left : (xs ys : List Question) → AllYes (xs ++ ys) → AllYes xs
+all-left [] ys a = tt
+all-left (x ∷ xs) ys a = (a .0, all-left xs ys (a .1))
+
+pub all-right : (xs ys : List Question) → AllYes (xs ++ ys) → AllYes ys
+all-right [] ys a = a
+all-right (x ∷ xs) ys a = all-right xs ys (a .1)
+
 pub no-before : {n k : ℕ} (xs ys : List Question) → FirstNo xs n k → FirstNo (xs ++ ys) n k
 no-before xs ys (here q qs e) = here q (qs ++ ys) e
 no-before xs ys (later q qs e f) = later q (qs ++ ys) e (no-before qs ys f)

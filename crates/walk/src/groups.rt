@@ -4,13 +4,24 @@ ghost use Prim.Native.Nat.{_≤_};
 ghost use lib.ListN.{length};
 ghost use Rattle.slots.specs.Bytes.{slotOf};
 ghost use Rattle.slots.specs.Layout.{groupRead};
+ghost use Rattle.vehicles.specs.Rules.{groupAnswer};
 ghost use Rattle.walk.specs.Steps.{GroupStepped};
+ghost use Rattle.walk.specs.Walked.{plusGroup, GroupsBegin, GroupsWalked};
 use super::questions;
 use super::rows;
 use slots::GroupRead;
+use slots::Header;
 use sums::Verdict;
+use totals::Totals;
 use vehicles::Coefficients;
 use vehicles::Group;
+
+// What the links of a chain were told, the sums of the sources passed, and how many they are.
+pub(crate) struct Walked {
+    pub(crate) verdict: Verdict,
+    pub(crate) totals: Totals,
+    pub(crate) count: u16,
+}
 
 // What a link to a group was told, the group with its coefficients, and the next link.
 pub(crate) struct GroupStep {
@@ -76,5 +87,58 @@ fn step_group(
         group,
         coefficients,
         next: read.next,
+    }
+}
+
+// With a group's emissions, where sums are wanted.
+fn plus_group(totals: Totals, summing: bool, temperatures: [i16; 12], step: GroupStep) -> Totals
+    ensures { λ r. ⌜ r ≡ plusGroup summing totals (groupAnswer (step .group) temperatures (step .coefficients)) ⌝ }
+{
+    if summing {
+        let group = step.group;
+        let coefficients = step.coefficients;
+        let answer = vehicles::group_emissions(group, temperatures, coefficients);
+        let emissions = answer.emissions;
+        totals.plus_all(emissions)
+    } else {
+        totals
+    }
+}
+
+// The group chain, from slot 0 to a zero or to the first question that is answered no.
+pub(crate) fn walk_groups(
+    file: &[u8],
+    sources: &mut [bool; 1024],
+    reached: &mut [bool; 1024],
+    h: Header,
+    summing: bool,
+) -> Walked
+    requires { ⌜ GroupsBegin (now file) (now sources) (now reached) h ⌝ }
+    ensures { λ r. ⌜ GroupsWalked (now (file .entry)) summing (now (sources .exit)) (now (reached .exit)) r ⌝ }
+{
+    let temperatures = h.temperatures;
+    let mut totals = Totals::zero();
+    let mut holder = 0;
+    let mut link = h.groups;
+    let mut count = 0;
+    while link != 0 {
+        let step = step_group(file, sources, reached, holder, link);
+        let verdict = step.verdict;
+        if verdict.number != 0 {
+            return Walked {
+                verdict,
+                totals,
+                count,
+            };
+        }
+        totals = plus_group(totals, summing, temperatures, step);
+        holder = link;
+        link = step.next;
+        count += 1;
+    }
+    Walked {
+        verdict: questions::accept(),
+        totals,
+        count,
     }
 }

@@ -1,0 +1,84 @@
+-- One source more: a link that nothing is refused of lengthens the chain, and its emissions make the sums those of the sources passed. Assumes nothing.
+use Prim.Native.Nat.{ℕ, _+_, _<_}
+use native.Mathlib.Omega.{arith}
+use mathlib.Core.Path.{_≡_, refl, ap, subst, _∙_}
+use mathlib.Core.Bool.{Bool, true}
+use mathlib.Core.List.{List, [], _∷_}
+use lib.IntN.{ℤ}
+use lib.ListN.{getD, length, set}
+use Rattle.sums.specs.Choice.{if_then_else, listTo}
+use Rattle.sums.specs.Answer.{Contribution}
+use Rattle.vehicles.specs.Fields.{noCoefficients}
+use Rattle.vehicles.specs.Rules.{contributionOf, emissionOf, emissionsOf, groupAnswer}
+use Rattle.vehicles.specs.declared.group.Group.{Group}
+use Rattle.vehicles.specs.declared.group.Coefficients.{Coefficients}
+use Rattle.slots.specs.Bytes.{slotOf}
+use Rattle.slots.specs.Layout.{headerOf}
+use Rattle.slot_file.specs.Sources.{groupAt, temperaturesAt}
+use Rattle.slot_file.specs.Questions.{slotCount, headAsks, reachedBy, groupAsks}
+use Rattle.slot_file.specs.Meaning.{AllYes, Groups}
+use Rattle.slot_file.specs.Figures.{groupContributions}
+use Rattle.slot_file.specs.Alike.{total}
+use Rattle.slot_file.proofs.Marks.{marksOf, different-short}
+use Rattle.slot_file.proofs.Verdicts.{sized, groups-differ}
+use Rattle.totals.specs.Totals.{noTotals, totalsOf, plusTo}
+use Rattle.totals.specs.declared.Totals.{Totals}
+use Rattle.totals.proofs.Sums.{annualTo, peakTo, same-totals, plus-six}
+use Rattle.walk.specs.Rows.{marksTo}
+use Rattle.walk.specs.Steps.{GroupStepped}
+use Rattle.walk.specs.Walked.{unitsOf, sumsOf, plusGroup, GroupsPassed, GroupsEnded}
+use Rattle.walk.specs.declared.groups.GroupStep.{GroupStep}
+use Rattle.walk.proofs.Ranged.{group-answered}
+
+-- nothing is summed yet
+pub no-sums : (s : List ℕ) → noTotals ≡ sumsOf s [] []
+unfolding listTo
+no-sums s = refl
+
+module _ (s : List ℕ) where
+  group-summed : (gs : List ℕ) (g : ℕ)
+      → plusTo (sumsOf s gs []) (emissionsOf (groupAt s g .group) (temperaturesAt s) (groupAt s g .coefficients)) 6 ≡ sumsOf s (g ∷ gs) []
+  unfolding emissionsOf emissionOf groupContributions
+  group-summed gs g =
+      let x : ℕ → Contribution = λ (p : ℕ). contributionOf (groupAt s g .group) (temperaturesAt s) (getD (groupAt s g .coefficients) p noCoefficients) p in
+      let a : ℕ → ℕ = λ (c : ℕ). unitsOf (annualTo c) s gs [] in
+      let p : ℕ → ℕ = λ (c : ℕ). unitsOf (peakTo c) s gs [] in
+      plus-six a p x
+      ∙ same-totals (λ (c : ℕ). a c + total (annualTo c) (listTo 6 x)) (λ (c : ℕ). unitsOf (annualTo c) s (g ∷ gs) [])
+      (λ (c : ℕ). p c + total (peakTo c) (listTo 6 x)) (λ (c : ℕ). unitsOf (peakTo c) s (g ∷ gs) []) (λ c. omega arith) (λ c. omega arith)
+
+  group-marked : (gs : List ℕ) (g : ℕ) → marksTo s g (set (marksOf (reachedBy s gs)) g true) 6 ≡ marksOf (reachedBy s (g ∷ gs))
+  unfolding marksTo reachedBy
+  group-marked gs g = refl
+
+  module _ (h : AllYes (headAsks s)) where
+    pub groups-short : {gs : List ℕ} {link : ℕ} → Groups s gs link → length gs < 1024
+    groups-short {gs} {link} w = different-short (slotCount s) gs (sized s h) (groups-differ s gs _ link (w .chain) (w .good))
+
+    pub groups-ended : {summing : Bool} {sources reached : List Bool} {totals : Totals} {holder link count : ℕ}
+        → GroupsPassed s summing sources reached totals holder link count → link ≡ 0 → GroupsEnded s summing sources reached totals count
+    groups-ended {summing} {sources} {reached} {totals} {holder} {link} {count} p z =
+        record { holder = holder; passed = subst (λ (k : ℕ). GroupsPassed s summing sources reached totals holder k count) z p }
+
+    pub group-passed : {summing : Bool} {sources sources′ reached reached′ : List Bool} {totals totals′ : Totals} {holder link count : ℕ} {r : GroupStep}
+        → GroupsPassed s summing sources reached totals holder link count → (link ≡ 0 → ⊥)
+        → GroupStepped s holder link sources sources′ reached reached′ r → r .verdict .number ≡ 0
+        → totals′ ≡ plusGroup summing totals (groupAnswer (r .group) (temperaturesAt s) (r .coefficients))
+        → GroupsPassed s summing sources′ reached′ totals′ link (r .next) (count + 1)
+    unfolding plusGroup if_then_else
+    group-passed {link = g} p z t y d =
+        let q = t .passed y in
+        let a = t .told (p .gs) (p .sources-are) (p .holder-is) .all y in
+        record {
+          gs = g ∷ p .gs;
+          chain = record { chain = (q .next, z, p .chain .chain); good = (a, p .chain .good) };
+          holder-is = refl;
+          count-is = omega (arith, p .count-is);
+          sources-are = q .source-marked ∙ ap (λ (l : List Bool). set l g true) (p .sources-are);
+          reached-are = q .slots-marked ∙ ap (λ (l : List Bool). marksTo s g (set l g true) 6) (p .reached-are) ∙ group-marked (p .gs) g;
+          sums-are = λ e.
+              d ∙ simp e
+              ((λ i. plusTo (p .sums-are e i) (groupAnswer (q .group i) (temperaturesAt s) (q .coefficients i) .emissions) 6)
+              ∙ ap (λ l. plusTo (sumsOf s (p .gs) []) l 6) (group-answered s (p .gs) g a h)
+              ∙ group-summed (p .gs) g);
+        }

@@ -1,0 +1,61 @@
+-- A source that nothing is refused of is in range, and has zero soot or lead where it must: so its rule answers what it gives, and never a refusal. Assumes
+-- nothing.
+use Prim.Native.Nat.{ℕ, _<_}
+use mathlib.Core.Path.{_≡_, refl, sym, ap, subst, _∙_}
+use mathlib.Core.Bool.{Bool, true, false, not}
+use mathlib.Core.List.{List, [], _∷_}
+use lib.Dec.{T, leb, eqb}
+use lib.IntN.{ℤ}
+use lib.ListN.{getD}
+use borrow.Author.Tests.{not-true}
+use Rattle.sums.specs.Choice.{if_then_else, listTo}
+use Rattle.sums.proofs.Choices.{nth, allTo-of, listTo-at}
+use Rattle.vehicles.specs.Fields.{noCoefficients, groupInRange, temperaturesInRange, coefficientsInRange, allInRange}
+use Rattle.vehicles.specs.Rules.{inRange, notZero, emissionsOf, groupAnswer}
+use Rattle.vehicles.specs.declared.group.Coefficients.{Coefficients}
+use Rattle.slots.specs.Bytes.{byteAt, numberOf, zeroFrom, slotOf}
+use Rattle.slots.specs.Layout.{headerOf, groupOf, groupGood, groupRead, coefficientsOf, coefficientsGood, coefficientsRead}
+use Rattle.slot_file.specs.Sources.{coefficientSlot, groupAt, temperaturesAt}
+use Rattle.slot_file.specs.Questions.{headAsks, linkAsks, coefficientAsks, rowsAsks, closingAsks, groupAsks}
+use Rattle.slot_file.specs.Meaning.{AllYes}
+use Rattle.walk.proofs.Telling.{all-left, all-right}
+use Rattle.walk.proofs.SixRows.{row-yes}
+
+-- a read that is refused neither 8 nor 9 is good
+good-read : (kind good : Bool) → not (eqb (numberOf kind good) 8) ≡ true → not (eqb (numberOf kind good) 9) ≡ true → good ≡ true
+unfolding numberOf if_then_else
+good-read true true p q = refl
+good-read true false p q = q
+good-read false good p q = absurd (subst T (sym p) tt)
+
+module _ (s b : List ℕ) (g : ℕ) (a : AllYes (groupAsks s b g)) where
+  group-in-range : groupInRange (groupAt s g .group) ≡ true
+  unfolding groupAsks linkAsks groupAt groupRead groupGood
+  group-in-range =
+      let t = slotOf s g in
+      nth (groupInRange (groupOf t) ∷ leb (byteAt t 5) 3 ∷ zeroFrom t 36 28 ∷ [])
+      (good-read (eqb (byteAt t 2) 1) (groupGood t (groupOf t)) (a .1 .1 .0) (a .1 .1 .1 .0)) 0
+
+  row-in-range : (p : ℕ) → p < 6 → coefficientsInRange (getD (groupAt s g .coefficients) p noCoefficients) ≡ true
+  unfolding groupAsks linkAsks coefficientAsks groupAt coefficientsRead coefficientsGood
+  row-in-range p h =
+      let t = slotOf s (coefficientSlot s g p) in
+      let r = row-yes s g 6 p h (all-left (rowsAsks s g 6) (closingAsks s g) (a .1 .1 .1 .1)) in
+      rw (listTo-at noCoefficients 6 (λ (n : ℕ). coefficientsOf (slotOf s (coefficientSlot s g n))) p h)
+      (nth (coefficientsInRange (coefficientsOf t) ∷ zeroFrom t 32 32 ∷ [])
+      (good-read (eqb (byteAt t 2) 2) (coefficientsGood t (coefficientsOf t)) (r .1 .1 .0) (r .1 .1 .1 .0)) 0)
+
+  rows-in-range : allInRange (groupAt s g .coefficients) ≡ true
+  unfolding allInRange
+  rows-in-range = allTo-of 6 (λ (p : ℕ). coefficientsInRange (getD (groupAt s g .coefficients) p noCoefficients)) row-in-range
+
+  zero-where-due : notZero (groupAt s g .group) (groupAt s g .coefficients) ≡ false
+  unfolding groupAsks linkAsks closingAsks
+  zero-where-due = not-true _ (all-right (rowsAsks s g 6) (closingAsks s g) (a .1 .1 .1 .1) .1 .0)
+
+  -- the group's rule answers what it gives
+  pub group-answered : AllYes (headAsks s)
+      → groupAnswer (groupAt s g .group) (temperaturesAt s) (groupAt s g .coefficients) .emissions
+      ≡ emissionsOf (groupAt s g .group) (temperaturesAt s) (groupAt s g .coefficients)
+  unfolding groupAnswer inRange if_then_else headAsks temperaturesAt
+  group-answered h = simp (group-in-range, h .1 .1 .1 .1 .0, rows-in-range, zero-where-due)
