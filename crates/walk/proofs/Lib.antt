@@ -4,3 +4,4 @@ pub mod SixRows
 pub mod GroupAsks
 pub mod Ranged
 pub mod Passing
+pub mod StoreAsks

@@ -3,32 +3,39 @@ use Prim.Native.Nat.{ℕ, _+_, _<_}
 use native.Mathlib.Omega.{arith}
 use mathlib.Core.Path.{_≡_, refl, ap, subst, _∙_}
 use mathlib.Core.Bool.{Bool, true}
-use mathlib.Core.List.{List, [], _∷_}
+use mathlib.Core.List.{List, [], _∷_, _++_}
 use lib.IntN.{ℤ}
-use lib.ListN.{getD, length, set}
+use lib.ListN.{getD, length, set, length-append}
 use Rattle.sums.specs.Choice.{if_then_else, listTo}
-use Rattle.sums.specs.Answer.{Contribution}
+use Rattle.sums.specs.Answer.{Contribution, emitted}
+use Rattle.sums.specs.declared.answer.Verdict.{Verdict}
+use Rattle.stores.specs.Rules.{handlingContribution, standingContribution, aspirationContribution}
+use Rattle.stores.proofs.Exactly.{handling-emitted, standing-emitted, aspiration-emitted}
 use Rattle.vehicles.specs.Fields.{noCoefficients}
 use Rattle.vehicles.specs.Rules.{contributionOf, emissionOf, emissionsOf, groupAnswer}
 use Rattle.vehicles.specs.declared.group.Group.{Group}
 use Rattle.vehicles.specs.declared.group.Coefficients.{Coefficients}
 use Rattle.slots.specs.Bytes.{slotOf}
-use Rattle.slots.specs.Layout.{headerOf}
-use Rattle.slot_file.specs.Sources.{groupAt, temperaturesAt}
-use Rattle.slot_file.specs.Questions.{slotCount, headAsks, reachedBy, groupAsks}
-use Rattle.slot_file.specs.Meaning.{AllYes, Groups}
-use Rattle.slot_file.specs.Figures.{groupContributions}
+use Rattle.slots.specs.Layout.{readStore}
+use Rattle.slots.specs.declared.store.Store.{Store}
+use Rattle.slots.specs.declared.store.Store.the-variants.{Handling, Standing, Aspiration}
+use Rattle.slots.specs.declared.store.StoreRead.{StoreRead}
+use Rattle.slot_file.specs.Sources.{groupAt, storeAt, temperaturesAt}
+use Rattle.slot_file.specs.Questions.{slotCount, headAsks, reachedBy, storeAsks}
+use Rattle.slot_file.specs.Meaning.{AllYes, Groups, Stores}
+use Rattle.slot_file.specs.Figures.{groupContributions, storeContributions}
 use Rattle.slot_file.specs.Alike.{total}
 use Rattle.slot_file.proofs.Marks.{marksOf, different-short}
-use Rattle.slot_file.proofs.Verdicts.{sized, groups-differ}
-use Rattle.totals.specs.Totals.{noTotals, totalsOf, plusTo}
+use Rattle.slot_file.proofs.Verdicts.{sized, groups-differ, stores-differ}
+use Rattle.totals.specs.Totals.{noTotals, totalsOf, plusEmission, plusTo}
 use Rattle.totals.specs.declared.Totals.{Totals}
-use Rattle.totals.proofs.Sums.{annualTo, peakTo, same-totals, plus-six}
+use Rattle.totals.proofs.Sums.{annualTo, peakTo, same-totals, plus-emitted, plus-six}
 use Rattle.walk.specs.Rows.{marksTo}
-use Rattle.walk.specs.Steps.{GroupStepped}
-use Rattle.walk.specs.Walked.{unitsOf, sumsOf, plusGroup, GroupsPassed, GroupsEnded}
+use Rattle.walk.specs.Steps.{GroupStepped, StoreStepped}
+use Rattle.walk.specs.Walked.{unitsOf, sumsOf, plusGroup, GroupsPassed, GroupsEnded, recordEmission, storeEmission, plusStore, StoresPassed, StoresEnded}
 use Rattle.walk.specs.declared.groups.GroupStep.{GroupStep}
-use Rattle.walk.proofs.Ranged.{group-answered}
+use Rattle.walk.specs.declared.records.StoreStep.{StoreStep}
+use Rattle.walk.proofs.Ranged.{group-answered, storeInRange, store-answered}
 
 -- nothing is summed yet
 pub no-sums : (s : List ℕ) → noTotals ≡ sumsOf s [] []
@@ -82,3 +89,67 @@ module _ (s : List ℕ) where
               ∙ ap (λ l. plusTo (sumsOf s (p .gs) []) l 6) (group-answered s (p .gs) g a h)
               ∙ group-summed (p .gs) g);
         }
+
+-- one contribution more
+one-summed : (a p : ℕ → ℕ) (x : Contribution)
+    → plusEmission (totalsOf a p) (emitted x) ≡ totalsOf (λ (c : ℕ). a c + total (annualTo c) (x ∷ [])) (λ (c : ℕ). p c + total (peakTo c) (x ∷ []))
+one-summed a p x =
+    plus-emitted a p x
+    ∙ same-totals (λ (c : ℕ). a c + annualTo c x) (λ (c : ℕ). a c + total (annualTo c) (x ∷ [])) (λ (c : ℕ). p c + peakTo c x) (λ (c : ℕ). p c + total (peakTo c) (x ∷ []))
+    (λ c. omega arith) (λ c. omega arith)
+
+record-summed : (a p : ℕ → ℕ) (r : Store) → storeInRange r ≡ true → plusEmission (totalsOf a p) (recordEmission r)
+    ≡ totalsOf (λ (c : ℕ). a c + total (annualTo c) (storeContributions r)) (λ (c : ℕ). p c + total (peakTo c) (storeContributions r))
+unfolding recordEmission storeContributions
+record-summed a p (Handling h) e = ap (plusEmission (totalsOf a p)) (handling-emitted h e) ∙ one-summed a p (handlingContribution h)
+record-summed a p (Standing r) e = ap (plusEmission (totalsOf a p)) (standing-emitted r e) ∙ one-summed a p (standingContribution r)
+record-summed a p (Aspiration r) e = ap (plusEmission (totalsOf a p)) (aspiration-emitted r e) ∙ one-summed a p (aspirationContribution r)
+
+module _ (s gs : List ℕ) where
+  store-summed : (ss : List ℕ) (k : ℕ) → AllYes (storeAsks s gs ss k) → plusEmission (sumsOf s gs ss) (storeEmission (readStore (slotOf s k))) ≡ sumsOf s gs (k ∷ ss)
+  unfolding storeEmission
+  store-summed ss k a =
+      let e = store-answered s gs ss k a in
+      let u : ℕ → ℕ = λ (c : ℕ). unitsOf (annualTo c) s gs ss in
+      let v : ℕ → ℕ = λ (c : ℕ). unitsOf (peakTo c) s gs ss in
+      ap (λ (r : StoreRead). plusEmission (sumsOf s gs ss) (storeEmission r)) (e .0)
+      ∙ record-summed u v (storeAt s k) (e .1)
+      ∙ same-totals (λ (c : ℕ). u c + total (annualTo c) (storeContributions (storeAt s k))) (λ (c : ℕ). unitsOf (annualTo c) s gs (k ∷ ss))
+      (λ (c : ℕ). v c + total (peakTo c) (storeContributions (storeAt s k))) (λ (c : ℕ). unitsOf (peakTo c) s gs (k ∷ ss)) (λ c. omega arith) (λ c. omega arith)
+
+module _ (s : List ℕ) (h : AllYes (headAsks s)) where
+  pub stores-short : {gs ss : List ℕ} {link : ℕ} → Groups s gs 0 → Stores s gs ss link → length ss + length gs < 1024
+  stores-short {gs} {ss} {link} v w =
+      omega (
+        arith,
+        length-append ss gs,
+        different-short (slotCount s) (ss ++ gs) (sized s h) (stores-differ s gs ss _ link (groups-differ s gs _ 0 (v .chain) (v .good)) (w .chain) (w .good)),
+      )
+
+  pub stores-ended : {summing : Bool} {sources reached : List Bool} {totals : Totals} {holder link groups stores : ℕ} {v : Verdict}
+      → StoresPassed s summing sources reached totals holder link groups stores → link ≡ 0
+      → StoresEnded s summing reached (record { verdict = v; totals = totals; groups = groups; stores = stores })
+  stores-ended {summing} {sources} {reached} {totals} {holder} {link} {groups} {stores} p z =
+      record { sources = sources; holder = holder; passed = subst (λ (k : ℕ). StoresPassed s summing sources reached totals holder k groups stores) z p }
+
+  pub store-passed : {summing : Bool} {sources sources′ reached reached′ : List Bool} {totals totals′ : Totals} {holder link groups stores : ℕ} {r : StoreStep}
+      → StoresPassed s summing sources reached totals holder link groups stores → (link ≡ 0 → ⊥)
+      → StoreStepped s holder link sources sources′ reached reached′ r → r .verdict .number ≡ 0
+      → totals′ ≡ plusStore summing totals (r .read)
+      → StoresPassed s summing sources′ reached′ totals′ link (r .next) groups (stores + 1)
+  unfolding plusStore if_then_else
+  store-passed {link = k} p z t y d =
+      let q = t .passed y in
+      let a = t .told (p .gs) (p .ss) (p .sources-are) (p .holder-is) .all y in
+      record {
+        gs = p .gs;
+        ss = k ∷ p .ss;
+        group-chain = p .group-chain;
+        chain = record { chain = (q .next, z, p .chain .chain); good = (a, p .chain .good) };
+        holder-is = refl;
+        groups-are = p .groups-are;
+        stores-are = omega (arith, p .stores-are);
+        sources-are = q .source-marked ∙ ap (λ (l : List Bool). set l k true) (p .sources-are);
+        reached-are = q .slot-marked ∙ ap (λ (l : List Bool). set l k true) (p .reached-are);
+        sums-are = λ e. d ∙ simp e ((λ i. plusEmission (p .sums-are e i) (storeEmission (t .read i))) ∙ store-summed s (p .gs) (p .ss) k a);
+      }

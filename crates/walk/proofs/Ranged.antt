@@ -10,13 +10,18 @@ use lib.ListN.{getD}
 use borrow.Author.Tests.{not-true}
 use Rattle.sums.specs.Choice.{if_then_else, listTo}
 use Rattle.sums.proofs.Choices.{nth, allTo-of, listTo-at}
+use Rattle.stores.specs.Fields.{handlingInRange, standingInRange, aspirationInRange}
 use Rattle.vehicles.specs.Fields.{noCoefficients, groupInRange, temperaturesInRange, coefficientsInRange, allInRange}
 use Rattle.vehicles.specs.Rules.{inRange, notZero, emissionsOf, groupAnswer}
 use Rattle.vehicles.specs.declared.group.Coefficients.{Coefficients}
 use Rattle.slots.specs.Bytes.{byteAt, numberOf, zeroFrom, slotOf}
-use Rattle.slots.specs.Layout.{headerOf, groupOf, groupGood, groupRead, coefficientsOf, coefficientsGood, coefficientsRead}
-use Rattle.slot_file.specs.Sources.{coefficientSlot, groupAt, temperaturesAt}
-use Rattle.slot_file.specs.Questions.{headAsks, linkAsks, coefficientAsks, rowsAsks, closingAsks, groupAsks}
+use Rattle.slots.specs.Layout.{groupOf, groupGood, groupRead, coefficientsOf, coefficientsGood, coefficientsRead, handlingOf, handlingGood, standingOf, standingGood, aspirationOf, aspirationGood, storeKind, byKind, storeOf, storeGood, readStore}
+use Rattle.slots.specs.declared.store.Store.{Store}
+use Rattle.slots.specs.declared.store.Store.the-variants.{Handling, Standing, Aspiration}
+use Rattle.slots.specs.declared.store.StoreRead.the-variants.{Record}
+use Rattle.slots.proofs.Cases.{with-number, read-record}
+use Rattle.slot_file.specs.Sources.{coefficientSlot, groupAt, storeAt, temperaturesAt}
+use Rattle.slot_file.specs.Questions.{headAsks, linkAsks, coefficientAsks, rowsAsks, closingAsks, groupAsks, storeAsks}
 use Rattle.slot_file.specs.Meaning.{AllYes}
 use Rattle.walk.proofs.Telling.{all-left, all-right}
 use Rattle.walk.proofs.SixRows.{row-yes}
@@ -27,6 +32,12 @@ unfolding numberOf if_then_else
 good-read true true p q = refl
 good-read true false p q = q
 good-read false good p q = absurd (subst T (sym p) tt)
+
+zero-read : (kind good : Bool) → not (eqb (numberOf kind good) 8) ≡ true → not (eqb (numberOf kind good) 9) ≡ true → numberOf kind good ≡ 0
+unfolding numberOf if_then_else
+zero-read true true p q = refl
+zero-read true false p q = absurd (subst T (sym q) tt)
+zero-read false good p q = absurd (subst T (sym p) tt)
 
 module _ (s b : List ℕ) (g : ℕ) (a : AllYes (groupAsks s b g)) where
   group-in-range : groupInRange (groupAt s g .group) ≡ true
@@ -59,3 +70,30 @@ module _ (s b : List ℕ) (g : ℕ) (a : AllYes (groupAsks s b g)) where
       ≡ emissionsOf (groupAt s g .group) (temperaturesAt s) (groupAt s g .coefficients)
   unfolding groupAnswer inRange if_then_else headAsks temperaturesAt
   group-answered h = simp (group-in-range, h .1 .1 .1 .1 .0, rows-in-range, zero-where-due)
+
+-- a store record in range
+abbrev pub storeInRange : Store → Bool
+storeInRange (Handling h) = handlingInRange h
+storeInRange (Standing r) = standingInRange r
+storeInRange (Aspiration r) = aspirationInRange r
+
+good-store : (t : List ℕ) → storeGood t ≡ true → storeInRange (storeOf t) ≡ true
+unfolding storeGood storeOf byKind if_then_else handlingGood standingGood aspirationGood
+good-store t = go (eqb (byteAt t 2) 3) (eqb (byteAt t 2) 4)
+  where
+    go : (h r : Bool)
+        → if_then_else h (handlingGood t (handlingOf t)) (if_then_else r (standingGood t (standingOf t)) (aspirationGood t (aspirationOf t))) ≡ true
+        → storeInRange (if_then_else h (Handling (handlingOf t)) (if_then_else r (Standing (standingOf t)) (Aspiration (aspirationOf t)))) ≡ true
+    go true r e = nth (handlingInRange (handlingOf t) ∷ eqb (byteAt t 7) 0 ∷ zeroFrom t 16 4 ∷ zeroFrom t 24 40 ∷ []) e 0
+    go false true e = nth (standingInRange (standingOf t) ∷ eqb (byteAt t 7) 0 ∷ eqb (byteAt t 15) 0 ∷ zeroFrom t 18 2 ∷ zeroFrom t 24 40 ∷ []) e 0
+    go false false e = nth (aspirationInRange (aspirationOf t) ∷ zeroFrom t 6 2 ∷ zeroFrom t 20 44 ∷ []) e 0
+
+-- its rule answers what it gives
+pub store-answered : (s gs b : List ℕ) (k : ℕ) → AllYes (storeAsks s gs b k) → (readStore (slotOf s k) ≡ Record (storeAt s k)) × (storeInRange (storeAt s k) ≡ true)
+unfolding storeAsks linkAsks storeAt
+store-answered s gs b k a =
+    let t = slotOf s k in
+    let n = with-number t (readStore t) refl .1 in
+    let p = rw n at (a .1 .1 .0) in
+    let q = rw n at (a .1 .1 .1 .0) in
+    (read-record t (n ∙ zero-read (storeKind t) (storeGood t) p q), good-store t (good-read (storeKind t) (storeGood t) p q))

@@ -2,16 +2,17 @@
 use Prim.Native.Nat.{ℕ}
 use mathlib.Core.Path.{_≡_}
 use mathlib.Core.Bool.{Bool, true}
-use mathlib.Core.List.{List}
+use mathlib.Core.List.{List, _++_}
 use lib.ListN.{set}
 use Rattle.slots.specs.Bytes.{slotOf}
-use Rattle.slots.specs.Layout.{nextOf}
+use Rattle.slots.specs.Layout.{nextOf, readStore}
 use Rattle.slot_file.specs.Sources.{groupAt}
-use Rattle.slot_file.specs.Questions.{lastOf, groupAsks}
+use Rattle.slot_file.specs.Questions.{lastOf, groupAsks, storeAsks}
 use Rattle.slot_file.proofs.Marks.{marksOf}
 use Rattle.walk.specs.Told.{Told}
 use Rattle.walk.specs.Rows.{marksTo}
 use Rattle.walk.specs.declared.groups.GroupStep.{GroupStep}
+use Rattle.walk.specs.declared.records.StoreStep.{StoreStep}
 
 -- a group that nothing is refused of, and the marks after it
 pub record GroupPassed (s : List ℕ) (g : ℕ) (sources sources′ reached reached′ : List Bool) (r : GroupStep) : Type 0 where
@@ -24,3 +25,13 @@ pub record GroupPassed (s : List ℕ) (g : ℕ) (sources sources′ reached reac
 pub record GroupStepped (s : List ℕ) (holder g : ℕ) (sources sources′ reached reached′ : List Bool) (r : GroupStep) : Type 0 where
   pub told : (b : List ℕ) → sources ≡ marksOf b → holder ≡ lastOf b → Told (groupAsks s b g) (r .verdict)
   pub passed : r .verdict .number ≡ 0 → GroupPassed s g sources sources′ reached reached′ r
+
+pub record StorePassed (s : List ℕ) (k : ℕ) (sources sources′ reached reached′ : List Bool) (r : StoreStep) : Type 0 where
+  pub next : r .next ≡ nextOf (slotOf s k)
+  pub source-marked : sources′ ≡ set sources k true
+  pub slot-marked : reached′ ≡ set reached k true
+
+pub record StoreStepped (s : List ℕ) (holder k : ℕ) (sources sources′ reached reached′ : List Bool) (r : StoreStep) : Type 0 where
+  pub read : r .read ≡ readStore (slotOf s k)
+  pub told : (gs b : List ℕ) → sources ≡ marksOf (b ++ gs) → holder ≡ lastOf b → Told (storeAsks s gs b k) (r .verdict)
+  pub passed : r .verdict .number ≡ 0 → StorePassed s k sources sources′ reached reached′ r

@@ -2,24 +2,30 @@
 use Prim.Native.Nat.{ℕ, _+_}
 use mathlib.Core.Path.{_≡_}
 use mathlib.Core.Bool.{Bool, true}
-use mathlib.Core.List.{List, []}
+use mathlib.Core.List.{List, [], _++_}
 use lib.ListN.{length}
 use Rattle.sums.specs.Choice.{if_then_else}
-use Rattle.sums.specs.Answer.{Contribution}
+use Rattle.sums.specs.Answer.{Contribution, noEmission}
+use Rattle.sums.specs.declared.answer.Emission.{Emission}
+use Rattle.stores.specs.Rules.{handlingAnswer, standingAnswer, aspirationAnswer}
 use Rattle.vehicles.specs.declared.rule.GroupAnswer.{GroupAnswer}
 use Rattle.slots.specs.Bytes.{slotOf}
 use Rattle.slots.specs.Layout.{headerOf}
 use Rattle.slots.specs.declared.header.Header.{Header}
+use Rattle.slots.specs.declared.store.Store.{Store}
+use Rattle.slots.specs.declared.store.Store.the-variants.{Handling, Standing, Aspiration}
+use Rattle.slots.specs.declared.store.StoreRead.{StoreRead}
+use Rattle.slots.specs.declared.store.StoreRead.the-variants.{Record, WrongKind, OutOfRange}
 use Rattle.slot_file.specs.Sources.{groupAt, storeAt, temperaturesAt}
 use Rattle.slot_file.specs.Questions.{headAsks, lastOf, reachedBy}
-use Rattle.slot_file.specs.Meaning.{AllYes, Groups, Refuses}
+use Rattle.slot_file.specs.Meaning.{AllYes, Groups, Stores, Refuses}
 use Rattle.slot_file.specs.Figures.{groupContributions, storeContributions}
 use Rattle.slot_file.specs.Alike.{total}
 use Rattle.slot_file.proofs.Marks.{marksOf}
-use Rattle.totals.specs.Totals.{totalsOf, plusTo}
+use Rattle.totals.specs.Totals.{totalsOf, plusEmission, plusTo}
 use Rattle.totals.specs.declared.Totals.{Totals}
 use Rattle.totals.proofs.Sums.{annualTo, peakTo}
-use Rattle.walk.specs.declared.groups.Walked.{Walked}
+use Rattle.walk.specs.declared.walked.Walked.{Walked}
 
 -- the units that the groups gs and the store records ss of a file have together
 abbrev pub unitsOf : (Contribution → ℕ) → List ℕ → List ℕ → List ℕ → ℕ
@@ -57,4 +63,47 @@ pub record GroupsEnded (s : List ℕ) (summing : Bool) (sources reached : List B
 
 pub record GroupsWalked (s : List ℕ) (summing : Bool) (sources reached : List Bool) (r : Walked) : Type 0 where
   pub refused : (r .verdict .number ≡ 0 → ⊥) → Refuses s (r .verdict .number) (r .verdict .slot)
-  pub ended : r .verdict .number ≡ 0 → GroupsEnded s summing sources reached (r .totals) (r .count)
+  pub ended : r .verdict .number ≡ 0 → GroupsEnded s summing sources reached (r .totals) (r .groups)
+
+-- what a store record's rule answers
+unfoldable pub recordEmission : Store → Emission
+recordEmission (Handling h) = handlingAnswer h .emission
+recordEmission (Standing s) = standingAnswer s .emission
+recordEmission (Aspiration a) = aspirationAnswer a .emission
+
+unfoldable pub storeEmission : StoreRead → Emission
+storeEmission (Record r) = recordEmission r
+storeEmission WrongKind = noEmission
+storeEmission OutOfRange = noEmission
+
+unfoldable pub plusStore : Bool → Totals → StoreRead → Totals
+plusStore summing t r = if_then_else summing (plusEmission t (storeEmission r)) t
+
+-- where the store chain begins: the group chain has ended
+pub record StoresBegin (s : List ℕ) (summing : Bool) (sources reached : List Bool) (h : Header) (start : Walked) : Type 0 where
+  pub head : AllYes (headAsks s)
+  pub header : h ≡ headerOf (slotOf s 0)
+  pub groups : GroupsEnded s summing sources reached (start .totals) (start .groups)
+
+-- the groups gs and the store records ss are passed, and the store chain goes on at the link
+pub record StoresPassed (s : List ℕ) (summing : Bool) (sources reached : List Bool) (totals : Totals) (holder link groups stores : ℕ) : Type 0 where
+  pub gs : List ℕ
+  pub ss : List ℕ
+  pub group-chain : Groups s gs 0
+  pub chain : Stores s gs ss link
+  pub holder-is : holder ≡ lastOf ss
+  pub groups-are : groups ≡ length gs
+  pub stores-are : stores ≡ length ss
+  pub sources-are : sources ≡ marksOf (ss ++ gs)
+  pub reached-are : reached ≡ marksOf (ss ++ reachedBy s gs)
+  pub sums-are : summing ≡ true → totals ≡ sumsOf s gs ss
+
+-- and both chains are at their ends
+pub record StoresEnded (s : List ℕ) (summing : Bool) (reached : List Bool) (r : Walked) : Type 0 where
+  pub sources : List Bool
+  pub holder : ℕ
+  pub passed : StoresPassed s summing sources reached (r .totals) holder 0 (r .groups) (r .stores)
+
+pub record StoresWalked (s : List ℕ) (summing : Bool) (reached : List Bool) (r : Walked) : Type 0 where
+  pub refused : (r .verdict .number ≡ 0 → ⊥) → Refuses s (r .verdict .number) (r .verdict .slot)
+  pub ended : r .verdict .number ≡ 0 → StoresEnded s summing reached r

@@ -9,19 +9,13 @@ ghost use Rattle.walk.specs.Steps.{GroupStepped};
 ghost use Rattle.walk.specs.Walked.{plusGroup, GroupsBegin, GroupsWalked};
 use super::questions;
 use super::rows;
+use super::walked::Walked;
 use slots::GroupRead;
 use slots::Header;
 use sums::Verdict;
 use totals::Totals;
 use vehicles::Coefficients;
 use vehicles::Group;
-
-// What the links of a chain were told, the sums of the sources passed, and how many they are.
-pub(crate) struct Walked {
-    pub(crate) verdict: Verdict,
-    pub(crate) totals: Totals,
-    pub(crate) count: u16,
-}
 
 // What a link to a group was told, the group with its coefficients, and the next link.
 pub(crate) struct GroupStep {
@@ -128,7 +122,8 @@ pub(crate) fn walk_groups(
             return Walked {
                 verdict,
                 totals,
-                count,
+                groups: count,
+                stores: 0,
             };
         }
         totals = plus_group(totals, summing, temperatures, step);
@@ -139,6 +134,7 @@ pub(crate) fn walk_groups(
     Walked {
         verdict: questions::accept(),
         totals,
-        count,
+        groups: count,
+        stores: 0,
     }
 }

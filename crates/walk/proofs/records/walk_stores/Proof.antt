@@ -1,0 +1,85 @@
+-- After each step the store records passed are a chain, after the groups, of which every question is answered yes, with its marks and its sums (`Passing`); a
+-- chain of different slots below 1,024 ends.
+use borrow.Author.Needs.{needs}
+use native.Mathlib.Omega.{arith}
+use Prim.Native.Nat.{_-_}
+use mathlib.Core.Path.{refl, ap}
+use mathlib.Core.List.{[]}
+use Rattle.sums.specs.declared.answer.Verdict.{Verdict}
+use Rattle.slots.specs.declared.header.Header.{Header}
+use Rattle.slot_file.specs.Meaning.{at-store}
+use Rattle.slot_file.proofs.Verdicts.{bytes-most}
+use Rattle.walk.specs.Walked.{StoresPassed}
+use Rattle.walk.proofs.Passing.{stores-short, stores-ended, store-passed}
+use Rattle.walk.proofs.records.walk_stores.Statement.{statement}
+use Rattle.walk.proofs.records.walk_stores.Tie as tie
+
+abbrev Inv-loop : tie.InvT-loop
+Inv-loop file sources₀ reached₀ summing groups totals₀ holder₀ link₀ count₀ sources reached totals holder link count =
+    StoresPassed file summing sources reached totals holder link groups count
+
+abbrev μ-loop : tie.MeasureT-loop
+μ-loop file sources₀ reached₀ summing groups totals₀ holder₀ link₀ count₀ sources reached totals holder link count = 1024 - count
+
+loop-holds : tie.Need-loop-holds Inv-loop μ-loop
+loop-holds c =
+    let b = c .before .before .pre in
+    let p = b .groups .passed in
+    record {
+      gs = p .gs;
+      ss = [];
+      group-chain = p .chain;
+      chain = record { chain = ap (λ (h : Header). h .stores) (b .header); good = tt };
+      holder-is = refl;
+      groups-are = p .count-is;
+      stores-are = refl;
+      sources-are = p .sources-are;
+      reached-are = p .reached-are;
+      sums-are = p .sums-are;
+    }
+
+step-store-requires : tie.Need-step-store-requires Inv-loop μ-loop
+step-store-requires c κs = (bytes-most _ (c .before .before .before .before .before .before .pre .head), c .before .before .loop-test .taken)
+
+returns : tie.Need-returns Inv-loop μ-loop
+returns c =
+    let b = c .before .before .before .before .before .before .before in
+    let p = b .loop .inv in
+    let t = c .before .before .before .step-store .ensures in
+    record {
+      refused = λ z. at-store (p .gs) (p .ss) (b .loop .link) (b .before .before .before .pre .head) (p .group-chain) (p .chain)
+          (c .before .before .before .before .before .before .loop-test .taken) (t .told (p .gs) (p .ss) (p .sources-are) (p .holder-is) .first z);
+      ended = λ y. absurd (c .if1 .taken y);
+    }
+
+add-count : tie.Need-add-count Inv-loop μ-loop
+add-count c =
+    let b = c .before .before .before .before .before .before .before .before in
+    let p = b .loop .inv in
+    omega (arith, stores-short _ (b .before .before .before .pre .head) (p .group-chain) (p .chain), p .stores-are)
+
+loop-less : tie.Need-loop-less Inv-loop μ-loop
+loop-less c =
+    let b = c .before .before .before .before .before .before .before .before in
+    let p = b .loop .inv in
+    omega (arith, stores-short _ (b .before .before .before .pre .head) (p .group-chain) (p .chain), p .stores-are)
+
+loop-again : tie.Need-loop-again Inv-loop μ-loop
+loop-again c =
+    let d = c .before .before .before .before in
+    let b = d .before .before .before .before in
+    store-passed _ (b .before .before .before .pre .head) (b .loop .inv) (d .before .before .before .loop-test .taken) (d .step-store .ensures) (c .before .if1 .left)
+    (c .plus-store .ensures)
+
+returns-2 : tie.Need-returns-2 Inv-loop μ-loop
+returns-2 c =
+    let b = c .before .before in
+    record {
+      refused = λ z. absurd (z (ap (λ (v : Verdict). v .number) (c .accept .ensures)));
+      ended = λ _. stores-ended _ (b .before .before .before .pre .head) (b .loop .inv) (c .before .loop-test .left);
+    }
+
+pub walk-stores-spec : {M : Type 1} → statement M
+walk-stores-spec =
+    tie.close
+    (tie.spec Inv-loop μ-loop loop-holds step-store-requires returns (search needs) add-count loop-less loop-again (search needs) returns-2)

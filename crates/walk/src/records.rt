@@ -1,0 +1,146 @@
+// The store chain.
+ghost use mathlib.Core.Path.{_≡_};
+ghost use Prim.Native.Nat.{_≤_};
+ghost use lib.ListN.{length};
+ghost use Rattle.slots.specs.Layout.{storeNumber};
+ghost use Rattle.walk.specs.Steps.{StoreStepped};
+ghost use Rattle.walk.specs.Walked.{recordEmission, storeEmission, plusStore, StoresBegin, StoresWalked};
+use super::questions;
+use super::rows;
+use super::walked::Walked;
+use slots::Header;
+use slots::Store;
+use slots::StoreRead;
+use sums::Emission;
+use sums::Verdict;
+use totals::Totals;
+
+// What a link to a store record was told, the record, and the next link.
+pub(crate) struct StoreStep {
+    pub(crate) verdict: Verdict,
+    pub(crate) read: StoreRead,
+    pub(crate) next: u16,
+}
+
+fn number_of(read: StoreRead) -> u8
+    ensures { λ r. ⌜ r ≡ storeNumber read ⌝ }
+{
+    match read {
+        StoreRead::Record(_) => 0,
+        StoreRead::WrongKind => 8,
+        StoreRead::OutOfRange => 9,
+    }
+}
+
+// All that is asked of a link to a store record. Its slot is marked as a source and as reached.
+fn step_store(
+    file: &[u8],
+    sources: &mut [bool; 1024],
+    reached: &mut [bool; 1024],
+    holder: u16,
+    link: u16,
+) -> StoreStep
+    requires { ⌜ (length (now file) ≤ 65536) × (link ≡ 0 → ⊥) ⌝ }
+    ensures { λ r. ⌜ StoreStepped (now (file .entry)) holder link (now (sources .entry)) (now (sources .exit)) (now (reached .entry)) (now (reached .exit)) r ⌝ }
+{
+    let t = slots::slot_at(file, link as usize);
+    let read = slots::read_store(&t);
+    let verdict = questions::ask_link(file, sources, holder, link, number_of(read));
+    if verdict.number != 0 {
+        return StoreStep {
+            verdict,
+            read,
+            next: 0,
+        };
+    }
+    let k = rows::slot_index(link);
+    sources[k] = true;
+    reached[k] = true;
+    StoreStep {
+        verdict,
+        read,
+        next: slots::next_of(&t),
+    }
+}
+
+fn record_emission(store: Store) -> Emission
+    ensures { λ r. ⌜ r ≡ recordEmission store ⌝ }
+{
+    match store {
+        Store::Handling(h) => {
+            let answer = stores::handling_emission(h);
+            answer.emission
+        }
+        Store::Standing(s) => {
+            let answer = stores::standing_emission(s);
+            answer.emission
+        }
+        Store::Aspiration(a) => {
+            let answer = stores::aspiration_emission(a);
+            answer.emission
+        }
+    }
+}
+
+fn store_emission(read: StoreRead) -> Emission
+    ensures { λ r. ⌜ r ≡ storeEmission read ⌝ }
+{
+    match read {
+        StoreRead::Record(store) => record_emission(store),
+        StoreRead::WrongKind => Emission::none(),
+        StoreRead::OutOfRange => Emission::none(),
+    }
+}
+
+// With a store record's emission, where sums are wanted.
+fn plus_store(totals: Totals, summing: bool, read: StoreRead) -> Totals
+    ensures { λ r. ⌜ r ≡ plusStore summing totals read ⌝ }
+{
+    if summing {
+        totals.plus(store_emission(read))
+    } else {
+        totals
+    }
+}
+
+// The store chain, after the groups, from slot 0 to a zero or to the first question that is answered no.
+pub(crate) fn walk_stores(
+    file: &[u8],
+    sources: &mut [bool; 1024],
+    reached: &mut [bool; 1024],
+    h: Header,
+    summing: bool,
+    start: Walked,
+) -> Walked
+    requires { ⌜ StoresBegin (now file) summing (now sources) (now reached) h start ⌝ }
+    ensures { λ r. ⌜ StoresWalked (now (file .entry)) summing (now (reached .exit)) r ⌝ }
+{
+    let groups = start.groups;
+    let mut totals = start.totals;
+    let mut holder = 0;
+    let mut link = h.stores;
+    let mut count = 0;
+    while link != 0 {
+        let step = step_store(file, sources, reached, holder, link);
+        let verdict = step.verdict;
+        if verdict.number != 0 {
+            return Walked {
+                verdict,
+                totals,
+                groups,
+                stores: count,
+            };
+        }
+        let read = step.read;
+        totals = plus_store(totals, summing, read);
+        holder = link;
+        link = step.next;
+        count += 1;
+    }
+    Walked {
+        verdict: questions::accept(),
+        totals,
+        groups,
+        stores: count,
+    }
+}
