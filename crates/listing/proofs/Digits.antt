@@ -41,7 +41,7 @@ digits-short (suc k) (suc n) x h =
     both (λ (l : List ℕ). length l ≤ suc (suc k)) (ltb x 10) (omega arith)
     (simp length-append (omega (arith, digits-short k n (x / 10) (omega (arith, pow-succ' 10 (suc k))))))
 
-pub padded-length : (n x : ℕ) → length (padded n x) ≡ n
+padded-length : (n x : ℕ) → length (padded n x) ≡ n
 unfolding padded
 padded-length zero x = refl
 padded-length (suc n) x = ap suc (padded-length n x)

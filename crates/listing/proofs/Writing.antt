@@ -27,25 +27,29 @@ pub paired : {l m n a : List ℕ} {i j k : ℕ} (x y : ℕ) → Added l i m j a 
 paired x y h g = simp append-assoc (simp append-assoc at (then h g))
 
 -- what is written from byte 0 on
-pub written : {l m a : List ℕ} {r : ℕ} → Added l 0 m r a → r ≤ length l → m ≡ a ++ drop r l
+written : {l m a : List ℕ} {r : ℕ} → Added l 0 m r a → r ≤ length l → m ≡ a ++ drop r l
 written {l} {a = a} h g = h .stored ∙ sets-eq a l 0 (omega arith) ∙ ap (λ (n : ℕ). a ++ drop n l) (sym (h .next))
 
 -- the first r bytes are a and nothing else
 pub record Held (m : List ℕ) (r : ℕ) (a : List ℕ) : Type 0 where
   pub bytes : take r m ≡ a
   pub long : r ≡ length a
+  pub counted : r ≡ length (take r m)
   pub within : r ≤ length m
 
 pub held : {l m a : List ℕ} {r : ℕ} → Added l 0 m r a → r ≤ length l → Held m r a
-held {l} {a = a} {r} h g = record {
-  bytes = ap (take r) (written h g) ∙ take-at a (drop r l) r (omega arith);
-  long = omega arith;
-  within = omega (arith, length-sets l 0 a, ap length (h .stored));
-}
+held {l} {a = a} {r} h g =
+    let e = ap (take r) (written h g) ∙ take-at a (drop r l) r (omega arith) in
+    record {
+      bytes = e;
+      long = omega arith;
+      counted = omega (arith, ap length e);
+      within = omega (arith, length-sets l 0 a, ap length (h .stored));
+    }
 
--- the whole of a, copied into a buffer
-pub copied : (a buffer : List ℕ) → take (length a) a ++ drop (length a) buffer ≡ a ++ drop (length a) buffer
-copied a buffer = rw take-length
+-- a copy of these bytes into a buffer
+pub copied : {m a x : List ℕ} {r : ℕ} (buffer : List ℕ) → Held m r a → x ≡ take (length (take r m)) (take r m) ++ drop (length (take r m)) buffer → x ≡ a ++ drop (length a) buffer
+copied {a = a} buffer h e = rw (h .bytes, take-length a) at e
 
 -- n with the rest from k on is l with the whole from i on: what holds at each turn of a loop that writes
 pub record Due (l : List ℕ) (i : ℕ) (whole n : List ℕ) (k : ℕ) (rest : List ℕ) : Type 0 where

@@ -8,7 +8,6 @@ ghost use mathlib.Core.List.{_++_};
 ghost use lib.ListN.{length, drop};
 ghost use Rattle.slot_file.specs.Figures.{refusal};
 ghost use Rattle.slot_file.specs.Listing.{printed, listed};
-ghost use Rattle.listing.specs.Text.{listedBy};
 use slot_file::Answer;
 
 // What a listing into a lent buffer answers: the answer itself, or refusal 13, and how many bytes were written.
@@ -17,9 +16,9 @@ pub struct Listing {
     pub length: usize,
 }
 
-// The listing from byte 0 of the buffer, where it has room; else nothing is written.
+// The listing from byte 0 of the buffer, and its length. An answer that is a refusal stays as it is, and a buffer that is too short gives refusal 13; neither writes a byte.
 pub fn list_answer(a: Answer, buffer: &mut [u8]) -> Listing
-    ensures { λ r. ⌜ listedBy r (now (buffer .exit)) ≡ listed a (now (buffer .entry)) ⌝ }
+    ensures { λ r. ⌜ record { answer = r .answer; length = r .length; buffer = now (buffer .exit) } ≡ listed a (now (buffer .entry)) ⌝ }
 {
     if a.number != 0 {
         return Listing {

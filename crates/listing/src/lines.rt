@@ -18,8 +18,8 @@ fn put_line(out: &mut [u8; 640], from: usize, code: u64, annual: u64, peak: u64)
     let at = text::put_byte(out, at, b' ');
     let at = numbers::put_fixed(out, at, annual, 6);
     let at = text::put_byte(out, at, b' ');
-    let at = numbers::put_fixed(out, at, peak, 7);
-    text::put_byte(out, at, b'\n')
+    let end = numbers::put_fixed(out, at, peak, 7);
+    text::put_byte(out, end, b'\n')
 }
 
 // A line for each code.

@@ -13,5 +13,5 @@ put-printed-spec =
     (tie.spec
     (λ c κs. search needs)
     (λ c κs. search needs)
-    (λ c. simp (eq-eqb _ _ (c .before .before .if1 .taken)) (c .put-listing .ensures))
-    (λ c. simp (ne-eqb _ _ (c .before .before .if1 .left)) (c .put-refusal .ensures)))
+    (λ c. simp (eq-eqb (c .before .before .before .before .args .a .number) 0 (c .before .before .if1 .taken)) (c .put-listing .ensures))
+    (λ c. simp (ne-eqb (c .before .before .before .before .args .a .number) 0 (c .before .before .if1 .left)) (c .put-refusal .ensures)))
