@@ -1,4 +1,4 @@
-// Bytes, one after the other, into a lent array.
+// Bytes, one after the other, into a lent array of 640, which holds any listing: the longest has 526.
 ghost use Prim.Native.Nat.{_+_, _<_, _≤_};
 ghost use mathlib.Core.List.{[], _∷_};
 ghost use lib.ListN.{length};
