@@ -1,0 +1,64 @@
+-- The lines from the next code on are what is due.
+use borrow.Author.Needs.{needs}
+use native.Mathlib.Nat.{add-zero}
+use native.Mathlib.Omega.{arith}
+use native.Mathlib.Numerals.{add-one}
+use mathlib.Core.Path.{_≡_, refl}
+use mathlib.Core.List.{List, _++_}
+use Prim.Native.Nat.{ℕ, _+_, _-_, _*_, _<_, _≤_}
+use lib.ListN.{length, drop, getD}
+use lib.Seq.{drop-cons, getD-drop, drop-drop}
+use Rattle.slot_file.specs.Figures.{codes}
+use Rattle.slot_file.specs.Listing.{line, lines}
+use Rattle.listing.proofs.Writing.{Due, turn, done}
+use Rattle.listing.proofs.lines.put_lines.Statement.{statement}
+use Rattle.listing.proofs.lines.put_lines.Tie as tie
+
+linesFrom : List ℕ → List ℕ → List ℕ → ℕ → List ℕ
+linesFrom cs annual peak i = lines (drop i cs) (drop i annual) (drop i peak)
+
+next : (cs annual peak : List ℕ) (i : ℕ) → i < length cs → linesFrom cs annual peak i ≡ line (getD cs i 0) (getD annual i 0) (getD peak i 0) ++ linesFrom cs annual peak (i + 1)
+unfolding linesFrom lines
+next cs annual peak i h = rw (drop-cons cs i 0) (simp (getD-drop, drop-drop, add-one, add-zero))
+
+abbrev Inv-loop : tie.InvT-loop
+Inv-loop out₀ from a at₀ i₀ out at i = (i ≤ 10) × (at ≤ from + 49 * i) × Due out₀ from (lines codes (a .annual) (a .peak)) out at (linesFrom codes (a .annual) (a .peak) i)
+
+abbrev μ-loop : tie.MeasureT-loop
+μ-loop out₀ from a at₀ i₀ out at i = 10 - i
+
+loop-holds : tie.Need-loop-holds Inv-loop μ-loop
+unfolding linesFrom
+loop-holds c = (search needs, search needs, record { same = refl; ends = refl })
+
+loop-again : tie.Need-loop-again Inv-loop μ-loop
+loop-again c =
+    let b = c .before .before .before .before .before in
+    let a = b .before .args .t3 in
+    (search needs, search needs, turn (b .loop .inv .2) (next codes (a .annual) (a .peak) (b .loop .i) (search needs)) (c .put-line .ensures .0))
+
+returns : tie.Need-returns Inv-loop μ-loop
+unfolding linesFrom lines
+returns c =
+    let b = c .before in
+    let e : b .loop .i ≡ 10 = omega arith in
+    (done (b .loop .inv .2) (rw e), search needs)
+
+pub put-lines-spec : {M : Type 1} → statement M
+put-lines-spec =
+    tie.close
+    (tie.spec
+    Inv-loop
+    μ-loop
+    loop-holds
+    (search needs)
+    (search needs)
+    (search needs)
+    (search needs)
+    (search needs)
+    (search needs)
+    (λ c κs. search needs)
+    (search needs)
+    (search needs)
+    loop-again
+    returns)

@@ -1,0 +1,23 @@
+-- Whole digits, point and decimals, one after the other.
+use borrow.Author.Needs.{needs}
+use native.Mathlib.Omega.{arith}
+use Prim.Native.Nat.{_-_}
+use Rattle.slot_file.specs.Listing.{text, fixed}
+use Rattle.listing.proofs.Writing.{then, bounded}
+use Rattle.listing.proofs.Digits.{fixed-short}
+use Rattle.listing.proofs.numbers.put_fixed.Statement.{statement}
+use Rattle.listing.proofs.numbers.put_fixed.Tie as tie
+
+returns : tie.Need-returns
+unfolding fixed text
+returns c =
+    let b = c .before .before in
+    let d = b .before .before in
+    let a = d .before .before .before .args in
+    bounded 21 (rw (← d .before .power .ensures .0) (then (then (d .put-decimal .ensures .0) (b .put-byte .ensures)) (c .put-padded .ensures .0)))
+    (fixed-short (a .n) (19 - a .n) (a .x) (omega arith) (omega arith))
+
+pub put-fixed-spec : {M : Type 1} → statement M
+put-fixed-spec =
+    tie.close
+    (tie.spec (λ c κs. search needs) (search needs) (λ c κs. search needs) (λ c κs. search needs) (λ c κs. search needs) returns)

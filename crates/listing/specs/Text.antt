@@ -1,0 +1,17 @@
+-- What the inner functions promise: bytes written into an array, one after the other. Nothing here has to be believed; the promises of the public functions cite
+-- slot_file's definitions alone.
+use Prim.Native.Nat.{ℕ, _+_}
+use mathlib.Core.Path.{_≡_}
+use mathlib.Core.List.{List, _++_}
+use lib.ListN.{length}
+use lib.Seq.{sets}
+use Rattle.slot_file.specs.Listing.{text, decimal}
+
+-- the bytes are stored from a place on, and nothing else is changed; r is the place after them
+pub record Added (before : List ℕ) (at : ℕ) (after : List ℕ) (r : ℕ) (bytes : List ℕ) : Type 0 where
+  pub stored : after ≡ sets before at bytes
+  pub next : r ≡ at + length bytes
+
+-- two numbers parted by a space, and a line feed
+abbrev pub pair : ℕ → ℕ → List ℕ
+pair x y = decimal x ++ text " " ++ decimal y ++ text "\n"

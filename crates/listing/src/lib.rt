@@ -1,0 +1,63 @@
+// The answer as bytes: the listing in a lent buffer, and what the program prints.
+mod lines;
+mod numbers;
+mod text;
+
+ghost use mathlib.Core.Path.{_≡_};
+ghost use mathlib.Core.List.{_++_};
+ghost use lib.ListN.{length, drop};
+ghost use Rattle.slot_file.specs.Figures.{refusal};
+ghost use Rattle.slot_file.specs.Listing.{printed, listed};
+use slot_file::Answer;
+
+// What a listing into a lent buffer answers: the answer itself, or refusal 13, and how many bytes were written.
+pub struct Listing {
+    pub answer: Answer,
+    pub length: usize,
+}
+
+// The listing from byte 0 of the buffer, and its length. An answer that is a refusal stays as it is, and a buffer that is too short gives refusal 13; neither writes a byte.
+pub fn list_answer(a: Answer, buffer: &mut [u8]) -> Listing
+    ensures { λ r. ⌜ record { answer = r .answer; length = r .length; buffer = now (buffer .exit) } ≡ listed a (now (buffer .entry)) ⌝ }
+{
+    if a.number != 0 {
+        return Listing {
+            answer: a,
+            length: 0,
+        };
+    }
+    let mut text = [0; 640];
+    let length = lines::put_listing(&mut text, a);
+    if buffer.len() < length {
+        return Listing {
+            answer: refused(13),
+            length: 0,
+        };
+    }
+    bytes::copy(&text[..length], buffer);
+    Listing { answer: a, length }
+}
+
+// A refusal at no slot: every figure and count zero.
+fn refused(number: u8) -> Answer
+    ensures { λ r. ⌜ r ≡ refusal number 0 ⌝ }
+{
+    Answer {
+        number,
+        slot: 0,
+        annual: [0; 10],
+        peak: [0; 10],
+        groups: 0,
+        stores: 0,
+    }
+}
+
+// What the program prints: the listing, or the refusal line.
+pub fn print_answer(a: Answer, out: &mut [u8; 640]) -> usize
+    ensures { λ r. ⌜ (r ≡ length (printed a)) × (now (out .exit) ≡ printed a ++ drop r (now (out .entry))) ⌝ }
+{
+    let mut text = [0; 640];
+    let length = lines::put_printed(&mut text, a);
+    bytes::copy(&text[..length], out);
+    length
+}

@@ -1,0 +1,75 @@
+// The lines of the listing, and the refusal line.
+ghost use Prim.Native.Nat.{_+_, _<_, _≤_};
+ghost use Rattle.slot_file.specs.Figures.{codes};
+ghost use Rattle.slot_file.specs.Listing.{line, lines, listing, refusalLine, printed};
+ghost use Rattle.listing.specs.Text.{Added, pair};
+use super::numbers;
+use super::text;
+use slot_file::Answer;
+
+const CODES: [u64; 10] = [152, 184, 301, 328, 330, 337, 2704, 2754, 2908, 2909];
+
+// Code, tonnes, grams per second.
+fn put_line(out: &mut [u8; 640], from: usize, code: u64, annual: u64, peak: u64) -> usize
+    requires { ⌜ from < 570 ⌝ }
+    ensures { λ r. ⌜ Added (now (out .entry)) from (now (out .exit)) r (line code annual peak) × (r ≤ from + 49) ⌝ }
+{
+    let at = numbers::put_padded(out, from, code, 4);
+    let at = text::put_byte(out, at, b' ');
+    let at = numbers::put_fixed(out, at, annual, 6);
+    let at = text::put_byte(out, at, b' ');
+    let end = numbers::put_fixed(out, at, peak, 7);
+    text::put_byte(out, end, b'\n')
+}
+
+// A line for each code.
+fn put_lines(out: &mut [u8; 640], from: usize, a: Answer) -> usize
+    requires { ⌜ from < 100 ⌝ }
+    ensures { λ r. ⌜ Added (now (out .entry)) from (now (out .exit)) r (lines codes (a .annual) (a .peak)) × (r ≤ from + 490) ⌝ }
+{
+    let mut at = from;
+    let mut i = 0;
+    while i < 10 {
+        at = put_line(out, at, CODES[i], a.annual[i], a.peak[i]);
+        i += 1;
+    }
+    at
+}
+
+// Two numbers parted by a space, and a line feed.
+fn put_pair(out: &mut [u8; 640], from: usize, x: u64, y: u64) -> usize
+    requires { ⌜ from < 590 ⌝ }
+    ensures { λ r. ⌜ Added (now (out .entry)) from (now (out .exit)) r (pair x y) × (r ≤ from + 42) ⌝ }
+{
+    let at = numbers::put_decimal(out, from, x);
+    let at = text::put_byte(out, at, b' ');
+    let at = numbers::put_decimal(out, at, y);
+    text::put_byte(out, at, b'\n')
+}
+
+pub(crate) fn put_listing(out: &mut [u8; 640], a: Answer) -> usize
+    ensures { λ r. ⌜ Added (now (out .entry)) 0 (now (out .exit)) r (listing a) × (r ≤ 640) ⌝ }
+{
+    let at = text::put_text(out, 0, b"code t/year g/s\n");
+    let at = put_lines(out, at, a);
+    let at = text::put_text(out, at, b"sources ");
+    put_pair(out, at, a.groups as u64, a.stores as u64)
+}
+
+fn put_refusal(out: &mut [u8; 640], number: u8, slot: u16) -> usize
+    ensures { λ r. ⌜ Added (now (out .entry)) 0 (now (out .exit)) r (refusalLine number slot) × (r ≤ 640) ⌝ }
+{
+    let at = text::put_text(out, 0, b"refused ");
+    put_pair(out, at, number as u64, slot as u64)
+}
+
+// The listing, or the refusal line.
+pub(crate) fn put_printed(out: &mut [u8; 640], a: Answer) -> usize
+    ensures { λ r. ⌜ Added (now (out .entry)) 0 (now (out .exit)) r (printed a) × (r ≤ 640) ⌝ }
+{
+    if a.number == 0 {
+        put_listing(out, a)
+    } else {
+        put_refusal(out, a.number, a.slot)
+    }
+}

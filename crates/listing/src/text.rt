@@ -1,0 +1,26 @@
+// Bytes, one after the other, into a lent array of 640, which holds any listing: the longest has 526.
+ghost use Prim.Native.Nat.{_+_, _<_, _≤_};
+ghost use mathlib.Core.List.{[], _∷_};
+ghost use lib.ListN.{length};
+ghost use Rattle.listing.specs.Text.{Added};
+
+pub(crate) fn put_byte(out: &mut [u8; 640], at: usize, b: u8) -> usize
+    requires { ⌜ at < 640 ⌝ }
+    ensures { λ r. ⌜ Added (now (out .entry)) at (now (out .exit)) r (b ∷ []) ⌝ }
+{
+    out[at] = b;
+    at + 1
+}
+
+pub(crate) fn put_text(out: &mut [u8; 640], from: usize, t: &[u8]) -> usize
+    requires { ⌜ from + length (now t) ≤ 640 ⌝ }
+    ensures { λ r. ⌜ Added (now (out .entry)) from (now (out .exit)) r (now (t .entry)) ⌝ }
+{
+    let mut at = from;
+    let mut i = 0;
+    while i < t.len() {
+        at = put_byte(out, at, t[i]);
+        i += 1;
+    }
+    at
+}
