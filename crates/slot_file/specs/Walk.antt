@@ -3,6 +3,7 @@ use Prim.Native.Nat.{ℕ, zero, suc}
 use mathlib.Core.List.{List, [], _∷_}
 use lib.Dec.{eqb}
 use Rattle.sums.specs.Choice.{if_then_else}
+use Rattle.sums.specs.declared.answer.Verdict as answer
 use Rattle.slots.specs.Bytes.{slotOf}
 use Rattle.slots.specs.Layout.{nextOf, headerOf}
 use Rattle.slot_file.specs.Questions.{Question, Verdict, accepted, refused, headAsks, groupAsks, storeAsks, lastAsks}
@@ -24,3 +25,8 @@ storesAfter s gs = chain (storeAsks s gs) (λ (ss : List ℕ). first (lastAsks s
 
 unfoldable pub verdict : List ℕ → Verdict
 verdict s = first (headAsks s) (chain (groupAsks s) (storesAfter s) 1024 s [] (headerOf (slotOf s 0) .groups))
+
+-- what a check answers: "either accepted or refused by number and slot"; 0 and 0 of an accepted file
+abbrev pub told : Verdict → answer.Verdict
+told (accepted gs ss) = record { number = 0; slot = 0 }
+told (refused n k) = record { number = n; slot = k }

@@ -115,3 +115,9 @@ module _ {A : Type 0} (d : A) where
   listTo-at zero f m p = absurd (not-suc-le-zero p)
   listTo-at (suc n) f zero p = refl
   listTo-at (suc n) f (suc m) p = listTo-at n (λ (k : ℕ). f (suc k)) m (le-of-suc-le-suc p)
+
+-- two lists that are the same place by place
+pub listTo-same : {A : Type 0} (n : ℕ) (f g : ℕ → A) → ((i : ℕ) → i < n → f i ≡ g i) → listTo n f ≡ listTo n g
+unfolding listTo
+listTo-same zero f g h = refl
+listTo-same (suc n) f g h = rw (h 0 (omega arith), listTo-same n (λ (i : ℕ). f (suc i)) (λ (i : ℕ). g (suc i)) (λ (i : ℕ) (p : i < n). h (suc i) (omega arith)))

@@ -17,7 +17,7 @@ use Rattle.sums.specs.declared.answer.Emission.{Emission}
 use Rattle.sums.specs.declared.mixed.Mixed.{Mixed}
 use Rattle.sums.specs.declared.annual.AnnualSum.{AnnualSum}
 use Rattle.sums.specs.declared.peak.PeakSum.{PeakSum}
-use Rattle.sums.proofs.Choices.{cases, listTo-at}
+use Rattle.sums.proofs.Choices.{cases, listTo-at, listTo-same}
 use Rattle.sums.proofs.Wrapping.{mixed-plus}
 use Rattle.slot_file.specs.Figures.{codes}
 use Rattle.slot_file.specs.Alike.{total}
@@ -29,11 +29,6 @@ use Rattle.totals.proofs.Places.{codes-distinct, changed, set-beyond}
 ten : {A : Type 0} (f : ℕ → A) → length (listTo 10 f) ≡ 10
 unfolding listTo
 ten f = refl
-
-listTo-same : {A : Type 0} (n : ℕ) (f g : ℕ → A) → ((i : ℕ) → i < n → f i ≡ g i) → listTo n f ≡ listTo n g
-unfolding listTo
-listTo-same zero f g h = refl
-listTo-same (suc n) f g h = rw (h 0 (omega arith), listTo-same n (λ (i : ℕ). f (suc i)) (λ (i : ℕ). g (suc i)) (λ (i : ℕ) (p : i < n). h (suc i) (omega arith)))
 
 pub same-totals : (a b p q : ℕ → ℕ) → ((c : ℕ) → a c ≡ b c) → ((c : ℕ) → p c ≡ q c) → totalsOf a p ≡ totalsOf b q
 same-totals a b p q h k =

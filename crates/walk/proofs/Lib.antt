@@ -5,3 +5,5 @@ pub mod GroupAsks
 pub mod Ranged
 pub mod Passing
 pub mod StoreAsks
+pub mod Bounded
+pub mod FileFigures

@@ -40,14 +40,14 @@ zero-read true false p q = absurd (subst T (sym q) tt)
 zero-read false good p q = absurd (subst T (sym p) tt)
 
 module _ (s b : List ℕ) (g : ℕ) (a : AllYes (groupAsks s b g)) where
-  group-in-range : groupInRange (groupAt s g .group) ≡ true
+  pub group-in-range : groupInRange (groupAt s g .group) ≡ true
   unfolding groupAsks linkAsks groupAt groupRead groupGood
   group-in-range =
       let t = slotOf s g in
       nth (groupInRange (groupOf t) ∷ leb (byteAt t 5) 3 ∷ zeroFrom t 36 28 ∷ [])
       (good-read (eqb (byteAt t 2) 1) (groupGood t (groupOf t)) (a .1 .1 .0) (a .1 .1 .1 .0)) 0
 
-  row-in-range : (p : ℕ) → p < 6 → coefficientsInRange (getD (groupAt s g .coefficients) p noCoefficients) ≡ true
+  pub row-in-range : (p : ℕ) → p < 6 → coefficientsInRange (getD (groupAt s g .coefficients) p noCoefficients) ≡ true
   unfolding groupAsks linkAsks coefficientAsks groupAt coefficientsRead coefficientsGood
   row-in-range p h =
       let t = slotOf s (coefficientSlot s g p) in

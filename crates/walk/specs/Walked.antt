@@ -18,7 +18,7 @@ use Rattle.slots.specs.declared.store.StoreRead.{StoreRead}
 use Rattle.slots.specs.declared.store.StoreRead.the-variants.{Record, WrongKind, OutOfRange}
 use Rattle.slot_file.specs.Sources.{groupAt, storeAt, temperaturesAt}
 use Rattle.slot_file.specs.Questions.{headAsks, lastOf, reachedBy}
-use Rattle.slot_file.specs.Meaning.{AllYes, Groups, Stores, Refuses}
+use Rattle.slot_file.specs.Meaning.{AllYes, Groups, Stores, Accepts, Refuses}
 use Rattle.slot_file.specs.Figures.{groupContributions, storeContributions}
 use Rattle.slot_file.specs.Alike.{total}
 use Rattle.slot_file.proofs.Marks.{marksOf}
@@ -107,3 +107,16 @@ pub record StoresEnded (s : List ℕ) (summing : Bool) (reached : List Bool) (r 
 pub record StoresWalked (s : List ℕ) (summing : Bool) (reached : List Bool) (r : Walked) : Type 0 where
   pub refused : (r .verdict .number ≡ 0 → ⊥) → Refuses s (r .verdict .number) (r .verdict .slot)
   pub ended : r .verdict .number ≡ 0 → StoresEnded s summing reached r
+
+-- a file that nothing is refused of
+pub record FileAccepted (s : List ℕ) (summing : Bool) (r : Walked) : Type 0 where
+  pub gs : List ℕ
+  pub ss : List ℕ
+  pub accepts : Accepts s gs ss
+  pub groups-are : r .groups ≡ length gs
+  pub stores-are : r .stores ≡ length ss
+  pub sums-are : summing ≡ true → r .totals ≡ sumsOf s gs ss
+
+pub record FileWalked (s : List ℕ) (summing : Bool) (r : Walked) : Type 0 where
+  pub refused : (r .verdict .number ≡ 0 → ⊥) → Refuses s (r .verdict .number) (r .verdict .slot)
+  pub accepted : r .verdict .number ≡ 0 → FileAccepted s summing r

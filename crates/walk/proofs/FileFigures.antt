@@ -1,0 +1,102 @@
+-- The figures of a file's sums are those of its exact sums: the sums have as many exact units (`Units`), drop none (`Bounded`), and one number has one figure.
+-- Assumes nothing.
+use Prim.Native.Nat.{ℕ, _+_, _*_, _%_, _^_, _<_, _≤_}
+use native.Mathlib.Omega.{arith}
+use native.Mathlib.Nat.{lt-of-le-of-lt}
+use mathlib.Core.Path.{_≡_, refl, sym, ap, _∙_}
+use mathlib.Core.List.{List, [], _∷_, map, reverse, reverseAux}
+use lib.Dec.{lit<}
+use lib.ListN.{getD, length}
+use Rattle.sums.specs.Choice.{listTo}
+use Rattle.sums.specs.Fraction.{Frac, _over_, whole, _⊙_, _≈_, partsOf}
+use Rattle.sums.specs.Figures as sum
+use Rattle.sums.specs.Figures.{annualDenominator, peakDenominator, partsIn, mixedOf, nearest, annualOf, peakOf}
+use Rattle.sums.specs.Answer.{Contribution}
+use Rattle.sums.specs.declared.annual.AnnualSum.{AnnualSum}
+use Rattle.sums.specs.declared.peak.PeakSum.{PeakSum}
+use Rattle.sums.proofs.Choices.{listTo-at, listTo-same}
+use Rattle.sums.proofs.Exact.{annualMost, peakMost, figure-exact}
+use Rattle.sums.proofs.Figure.{nearest-same}
+use Rattle.sums.proofs.Sources.{Bounded}
+use Rattle.slots.specs.declared.store.Store.{Store}
+use Rattle.slot_file.specs.Sources.{VehicleGroup, groupAt, storeAt, groupsAt, storesAt, temperaturesAt}
+use Rattle.slot_file.specs.Meaning.{Accepts}
+use Rattle.slot_file.specs.Figures.{groupContributions, storeContributions, contributions, exactSum, annualFigure, peakFigure, codes}
+use Rattle.slot_file.specs.Alike.{total}
+use Rattle.slot_file.proofs.Units.{Units, total-contributions, partsTo, exact-parts}
+use Rattle.totals.specs.Totals.{figuresOf}
+use Rattle.totals.specs.declared.Figures.{Figures}
+use Rattle.totals.proofs.Sums.{annualTo, peakTo}
+use Rattle.walk.specs.Walked.{unitsOf, sumsOf}
+use Rattle.walk.proofs.Passing.{stores-short}
+use Rattle.walk.proofs.Bounded.{file-most}
+
+by-code : (f : ℕ → ℕ) → listTo 10 (λ (i : ℕ). f (getD codes i 0)) ≡ map f codes
+unfolding listTo
+by-code f = refl
+
+-- a total does not go by the order
+module _ {A B : Type 0} (f : B → ℕ) (h : A → B) where
+  total-onto : (l m : List A) → total f (map h (reverseAux l m)) ≡ total (λ (x : A). f (h x)) l + total f (map h m)
+  total-onto [] m = omega arith
+  total-onto (x ∷ l) m = omega (arith, total-onto l (x ∷ m))
+
+  total-reversed : (l : List A) → total f (map h (reverse l)) ≡ total (λ (x : A). f (h x)) l
+  total-reversed l = omega (arith, total-onto l [])
+
+module _ (s gs ss : List ℕ) where
+  units-are : (n : Contribution → ℕ) → total n (contributions (temperaturesAt s) (groupsAt s gs) (storesAt s ss)) ≡ unitsOf n s gs ss
+  unfolding groupsAt storesAt
+  units-are n =
+      omega (
+        arith,
+        total-contributions (temperaturesAt s) (groupsAt s gs) (storesAt s ss) n,
+        total-reversed (λ (g : VehicleGroup). total n (groupContributions (temperaturesAt s) g)) (groupAt s) gs,
+        total-reversed (λ (r : Store). total n (storeContributions r)) (storeAt s) ss,
+      )
+
+  module _ (a : Accepts s gs ss) where
+    -- of either kind of sum: u printed units in a tonne or a gram per second, and d exact units in a printed one
+    module _ (f : Contribution → Frac) (u d most : ℕ) (pd : 0 < d) (pk : 0 < u * d) (room : 1023 * (6 * most) + d < 2 ^ 64 * d)
+        (exact : (x : Contribution) → Units x → f x ≈ (partsOf (u * d) (f x) over (u * d)))
+        (bound : (x : Contribution) → Bounded (x .tonnes) (x .rate) → partsOf (u * d) (f x) ≤ most) (c : ℕ) where
+      figured : nearest (partsIn d (mixedOf d (unitsOf (partsTo f (u * d) c) s gs ss)) over d) % 2 ^ 64
+          ≡ nearest (exactSum f c (contributions (temperaturesAt s) (groupsAt s gs) (storesAt s ss)) ⊙ whole u)
+      figured =
+          let x = unitsOf (partsTo f (u * d) c) s gs ss in
+          let l = stores-short s (a .head) (a .groups) (a .stores) in
+          let b = file-most f (u * d) most bound c s gs ss (a .groups .good) (a .stores .good) l in
+          figure-exact d pd x (omega (arith, b, room))
+          ∙ sym (nearest-same (exact-parts f (u * d) pk exact c u (temperaturesAt s) (groupsAt s gs) (storesAt s ss))
+          ∙ ap (λ (n : ℕ). nearest ((n * u) over (u * d * 1))) (units-are (partsTo f (u * d) c))
+          ∙ nearest-same (record { left = omega arith; right = pd; cross = omega arith }))
+
+    annual-figured : (c : ℕ) → sum.annualFigure (annualOf (unitsOf (annualTo c) s gs ss)) % 2 ^ 64 ≡ annualFigure (contributions (temperaturesAt s) (groupsAt s gs) (storesAt s ss)) c
+    unfolding annualFigure
+    annual-figured =
+        figured (λ (x : Contribution). x .tonnes) 1000000 annualDenominator annualMost (lit< tt) (lit< tt) (lit< tt) (λ (x : Contribution) (h : Units x). h .annual)
+        (λ (x : Contribution) (b : Bounded (x .tonnes) (x .rate)). b .annual)
+
+    peak-figured : (c : ℕ) → sum.peakFigure (peakOf (unitsOf (peakTo c) s gs ss)) % 2 ^ 64 ≡ peakFigure (contributions (temperaturesAt s) (groupsAt s gs) (storesAt s ss)) c
+    unfolding peakFigure
+    peak-figured =
+        figured (λ (x : Contribution). x .rate) 10000000 peakDenominator peakMost (lit< tt) (lit< tt) (lit< tt) (λ (x : Contribution) (h : Units x). h .peak)
+        (λ (x : Contribution) (b : Bounded (x .tonnes) (x .rate)). b .peak)
+
+    -- the figures by code are those of the answer
+    pub file-figures : figuresOf (sumsOf s gs ss) ≡ record {
+      annual = map (annualFigure (contributions (temperaturesAt s) (groupsAt s gs) (storesAt s ss))) codes;
+      peak = map (peakFigure (contributions (temperaturesAt s) (groupsAt s gs) (storesAt s ss))) codes;
+    }
+    unfolding figuresOf
+    file-figures =
+        let xs = contributions (temperaturesAt s) (groupsAt s gs) (storesAt s ss) in
+        let u = listTo-same 10 _ (λ (i : ℕ). annualFigure xs (getD codes i 0))
+        (λ (i : ℕ) (h : i < 10).
+        ap (λ (m : AnnualSum). sum.annualFigure m % 2 ^ 64) (listTo-at (annualOf 0) 10 (λ (i : ℕ). annualOf (unitsOf (annualTo (getD codes i 0)) s gs ss)) i h)
+        ∙ annual-figured (getD codes i 0)) ∙ by-code (annualFigure xs) in
+        let v = listTo-same 10 _ (λ (i : ℕ). peakFigure xs (getD codes i 0))
+        (λ (i : ℕ) (h : i < 10).
+        ap (λ (m : PeakSum). sum.peakFigure m % 2 ^ 64) (listTo-at (peakOf 0) 10 (λ (i : ℕ). peakOf (unitsOf (peakTo (getD codes i 0)) s gs ss)) i h)
+        ∙ peak-figured (getD codes i 0)) ∙ by-code (peakFigure xs) in
+        λ i. record { annual = u i; peak = v i }

@@ -1,0 +1,22 @@
+-- The walk means what the verdict means, and only one verdict does (`Verdicts.only`).
+use borrow.Author.Needs.{needs}
+use mathlib.Core.Path.{sym, ap, _∙_}
+use Rattle.slot_file.specs.Questions.{Verdict, accepted, refused}
+use Rattle.slot_file.specs.Walk.{told}
+use Rattle.slot_file.proofs.Verdicts.{only}
+use Rattle.walk.proofs.file.check.Statement.{statement}
+use Rattle.walk.proofs.file.check.Tie as tie
+
+returns : tie.Need-returns
+returns c =
+    let w = c .before .before .before in
+    let v = w .walk-file .result .verdict in
+    sym (ap (λ (x : Verdict). told x) (only _ (refused (v .number) (v .slot)) (w .walk-file .ensures .refused (c .if1 .taken))))
+
+returns-2 : tie.Need-returns-2
+returns-2 c =
+    let a = c .before .before .before .before .walk-file .ensures .accepted (c .before .if1 .left) in
+    c .accept .ensures ∙ sym (ap (λ (x : Verdict). told x) (only _ (accepted (a .gs) (a .ss)) (a .accepts)))
+
+pub check-spec : {M : Type 1} → statement M
+check-spec = tie.close (tie.spec (search needs) returns (search needs) returns-2)

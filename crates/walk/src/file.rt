@@ -1,0 +1,118 @@
+// A whole file: its check and its answer, by one walk over its chains.
+ghost use mathlib.Core.Path.{_≡_};
+ghost use mathlib.Core.List.{[]};
+ghost use Rattle.slots.specs.Bytes.{slotOf};
+ghost use Rattle.slots.specs.Layout.{headerOf};
+ghost use Rattle.slot_file.specs.Walk.{verdict, told};
+ghost use Rattle.slot_file.specs.Figures.{refusal};
+ghost use Rattle.slot_file.specs.Figures as figures;
+ghost use Rattle.slot_file.proofs.Marks.{marksOf};
+ghost use Rattle.walk.specs.Walked.{FileWalked};
+use super::groups;
+use super::questions;
+use super::records;
+use super::walked::Walked;
+use slot_file::Answer;
+use slots::Header;
+use sums::Verdict;
+use totals::Totals;
+
+fn header_of(file: &[u8]) -> Header
+    ensures { λ r. ⌜ r ≡ headerOf (slotOf (now (file .entry)) 0) ⌝ }
+{
+    let t = slots::slot_at(file, 0);
+    slots::read_header(&t)
+}
+
+// No slot is marked but slot 0.
+fn no_marks() -> [bool; 1024]
+    ensures { λ r. ⌜ r ≡ marksOf [] ⌝ }
+{
+    let mut marks = [false; 1024];
+    marks[0] = true;
+    marks
+}
+
+// Questions 1 to 12 in order; where nothing is refused, the counts, and the sums where they are wanted.
+fn walk_file(file: &[u8], summing: bool) -> Walked
+    ensures { λ r. ⌜ FileWalked (now (file .entry)) summing r ⌝ }
+{
+    let h = header_of(file);
+    let verdict = questions::ask_head(file, h);
+    if verdict.number != 0 {
+        return Walked {
+            verdict,
+            totals: Totals::zero(),
+            groups: 0,
+            stores: 0,
+        };
+    }
+    let mut sources = no_marks();
+    let mut reached = no_marks();
+    let groups = groups::walk_groups(file, &mut sources, &mut reached, h, summing);
+    let verdict = groups.verdict;
+    if verdict.number != 0 {
+        return groups;
+    }
+    let both = records::walk_stores(file, &mut sources, &mut reached, h, summing, groups);
+    let verdict = both.verdict;
+    if verdict.number != 0 {
+        return both;
+    }
+    let totals = both.totals;
+    Walked {
+        verdict: questions::ask_reached(&reached, file.len() / 64),
+        totals,
+        groups: both.groups,
+        stores: both.stores,
+    }
+}
+
+// Whether a file is accepted, and else the number and the slot that it is refused by.
+pub fn check(file: &[u8]) -> Verdict
+    ensures { λ r. ⌜ r ≡ told (verdict (now (file .entry))) ⌝ }
+{
+    let walked = walk_file(file, false);
+    let verdict = walked.verdict;
+    if verdict.number != 0 {
+        return verdict;
+    }
+    questions::accept()
+}
+
+// "A refusal gives its number and a slot, with every figure and count zero."
+fn refused(v: Verdict) -> Answer
+    ensures { λ r. ⌜ r ≡ refusal (v .number) (v .slot) ⌝ }
+{
+    Answer {
+        number: v.number,
+        slot: v.slot,
+        annual: [0; 10],
+        peak: [0; 10],
+        groups: 0,
+        stores: 0,
+    }
+}
+
+// The figures and the counts of an accepted file, or its refusal.
+pub fn answer(file: &[u8]) -> Answer
+    ensures { λ r. ⌜ r ≡ figures.answer (now (file .entry)) ⌝ }
+{
+    let walked = walk_file(file, true);
+    let verdict = walked.verdict;
+    if verdict.number != 0 {
+        return refused(verdict);
+    }
+    let totals = walked.totals;
+    let figures = totals.figures();
+    let annual = figures.annual;
+    let peak = figures.peak;
+    Answer {
+        number: 0,
+        slot: 0,
+        annual,
+        peak,
+        groups: walked.groups,
+        stores: walked.stores,
+    }
+}
