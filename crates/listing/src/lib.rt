@@ -6,7 +6,7 @@ mod text;
 ghost use mathlib.Core.Path.{_≡_};
 ghost use mathlib.Core.List.{_++_};
 ghost use lib.ListN.{length, drop};
-ghost use Rattle.slot_file.specs.Figures.{refusal};
+ghost use Rattle.slot_file.specs.Figures.{refusal, answer};
 ghost use Rattle.slot_file.specs.Listing.{printed, listed};
 use slot_file::Answer;
 
@@ -60,4 +60,18 @@ pub fn print_answer(a: Answer, out: &mut [u8; 640]) -> usize
     let length = lines::put_printed(&mut text, a);
     bytes::copy(&text[..length], out);
     length
+}
+
+// The listing of a file in a lent buffer, or its refusal.
+pub fn list(file: &[u8], buffer: &mut [u8]) -> Listing
+    ensures { λ r. ⌜ record { answer = r .answer; length = r .length; buffer = now (buffer .exit) } ≡ listed (answer (now (file .entry))) (now (buffer .entry)) ⌝ }
+{
+    list_answer(walk::answer(file), buffer)
+}
+
+// What the program prints of a file: its listing, or its refusal line.
+pub fn print(file: &[u8], out: &mut [u8; 640]) -> usize
+    ensures { λ r. ⌜ (r ≡ length (printed (answer (now (file .entry))))) × (now (out .exit) ≡ printed (answer (now (file .entry))) ++ drop r (now (out .entry))) ⌝ }
+{
+    print_answer(walk::answer(file), out)
 }
