@@ -17,7 +17,7 @@ pub struct Listing {
 }
 
 // The listing from byte 0 of the buffer, and its length. An answer that is a refusal stays as it is, and a buffer that is too short gives refusal 13; neither writes a byte.
-pub fn list_answer(a: Answer, buffer: &mut [u8]) -> Listing
+fn list_answer(a: Answer, buffer: &mut [u8]) -> Listing
     ensures { λ r. ⌜ record { answer = r .answer; length = r .length; buffer = now (buffer .exit) } ≡ listed a (now (buffer .entry)) ⌝ }
 {
     if a.number != 0 {
@@ -53,7 +53,7 @@ fn refused(number: u8) -> Answer
 }
 
 // What the program prints: the listing, or the refusal line.
-pub fn print_answer(a: Answer, out: &mut [u8; 640]) -> usize
+fn print_answer(a: Answer, out: &mut [u8; 640]) -> usize
     ensures { λ r. ⌜ (r ≡ length (printed a)) × (now (out .exit) ≡ printed a ++ drop r (now (out .entry))) ⌝ }
 {
     let mut text = [0; 640];
