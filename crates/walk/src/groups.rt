@@ -54,7 +54,7 @@ fn step_group(
             next: 0,
         };
     }
-    let k = rows::slot_index(link);
+    let k = link as usize;
     sources[k] = true;
     reached[k] = true;
     let rows = rows::read_rows(file, reached, link, read.first);

@@ -6,7 +6,6 @@ ghost use Rattle.slots.specs.Layout.{storeNumber};
 ghost use Rattle.walk.specs.Steps.{StoreStepped};
 ghost use Rattle.walk.specs.Walked.{recordEmission, storeEmission, plusStore, StoresBegin, StoresWalked};
 use super::questions;
-use super::rows;
 use super::walked::Walked;
 use slots::Header;
 use slots::Store;
@@ -53,7 +52,7 @@ fn step_store(
             next: 0,
         };
     }
-    let k = rows::slot_index(link);
+    let k = link as usize;
     sources[k] = true;
     reached[k] = true;
     StoreStep {

@@ -18,7 +18,7 @@ pub(crate) struct Rows {
     pub(crate) coefficients: [Coefficients; 6],
 }
 
-pub(crate) fn slot_index(link: u16) -> usize
+fn slot_index(link: u16) -> usize
     ensures { λ r. ⌜ r ≡ link ⌝ }
 {
     link as usize

@@ -2,7 +2,7 @@
 use borrow.Author.Needs.{needs}
 use native.Mathlib.Omega.{arith}
 use Prim.Native.Nat.{ℕ}
-use mathlib.Core.Path.{_≡_, ap, _∙_}
+use mathlib.Core.Path.{_≡_, refl, ap, _∙_}
 use mathlib.Core.Bool.{true}
 use mathlib.Core.List.{List, _++_}
 use lib.ListN.{set}
@@ -17,40 +17,33 @@ use Rattle.walk.proofs.records.step_store.Tie as tie
 
 returns : tie.Need-returns
 returns c =
-    let a = c .before .before .before .before .before .before .before .before .before in
+    let l = c .before .before in
+    let t = l .before .before .before .before .before .slot-at .ensures in
+    let a = l .before .before .before .before .before .before .before in
     let s = a .args .file .now in
-    let t = c .before .before .before .before .before .before .before .slot-at .ensures in
-    let e = c .before .before .before .before .before .read-store .ensures .0 ∙ ap readStore t in
+    let e = l .before .before .before .read-store .ensures .0 ∙ ap readStore t in
     let told : (gs b : List ℕ) → a .args .sources .now ≡ marksOf (b ++ gs) → a .args .holder ≡ lastOf b → Told (storeAsks s gs b (a .args .link)) _ =
-    λ gs b. store-told s gs b (c .before .before .ask-link .ensures) (c .before .before .before .number-of .ensures ∙ ap (λ (r : StoreRead). storeNumber r) e) (a .pre .1) in
+    λ gs b. store-told s gs b (l .ask-link .ensures) (l .before .number-of .ensures ∙ ap (λ (r : StoreRead). storeNumber r) e) (a .pre .1) in
     record { read = e; told = told; passed = λ y. absurd (c .if1 .taken y) }
 
 element-write-sources : tie.Need-element-write-sources
-element-write-sources c = omega (arith, c .slot-index .ensures, c .before .before .before .ask-link .ensures .below (c .before .if1 .left))
+element-write-sources c = omega (arith, c .before .before .ask-link .ensures .below (c .if1 .left))
 
 element-write-reached : tie.Need-element-write-reached
-element-write-reached c = omega (arith, c .slot-index .ensures, c .before .before .before .ask-link .ensures .below (c .before .if1 .left))
+element-write-reached c = omega (arith, c .before .before .ask-link .ensures .below (c .if1 .left))
 
 returns-2 : tie.Need-returns-2
 returns-2 c =
-    let a = c .before .before .before .before .before .before .before .before .before .before .before .before in
+    let l = c .before .before .before .before in
+    let t = l .before .before .before .before .before .slot-at .ensures in
+    let a = l .before .before .before .before .before .before .before in
     let s = a .args .file .now in
-    let t = c .before .before .before .before .before .before .before .before .before .before .slot-at .ensures in
-    let e = c .before .before .before .before .before .before .before .before .read-store .ensures .0 ∙ ap readStore t in
+    let e = l .before .before .before .read-store .ensures .0 ∙ ap readStore t in
     let told : (gs b : List ℕ) → a .args .sources .now ≡ marksOf (b ++ gs) → a .args .holder ≡ lastOf b → Told (storeAsks s gs b (a .args .link)) _ =
-    λ gs b. store-told s gs b (c .before .before .before .before .before .ask-link .ensures) (c .before .before .before .before .before .before .number-of .ensures ∙ ap (λ (r : StoreRead). storeNumber r) e) (a .pre .1) in
-    let k = c .before .before .slot-index .ensures in
-    record {
-      read = e;
-      told = told;
-      passed = λ _. record {
-        next = c .next-of .ensures ∙ ap nextOf t;
-        source-marked = λ i. set (a .args .sources .now) (k i) true;
-        slot-marked = λ i. set (a .args .reached .now) (k i) true;
-      };
-    }
+    λ gs b. store-told s gs b (l .ask-link .ensures) (l .before .number-of .ensures ∙ ap (λ (r : StoreRead). storeNumber r) e) (a .pre .1) in
+    record { read = e; told = told; passed = λ _. record { next = c .next-of .ensures ∙ ap nextOf t; source-marked = refl; slot-marked = refl } }
 
 pub step-store-spec : {M : Type 1} → statement M
 step-store-spec =
     tie.close
-    (tie.spec (search needs) (search needs) (search needs) (search needs) returns (search needs) element-write-sources element-write-reached (search needs) returns-2)
+    (tie.spec (search needs) (search needs) (search needs) (search needs) returns element-write-sources element-write-reached (search needs) returns-2)
