@@ -2,7 +2,6 @@
 -- (`Places`), and since sums of mixed numbers are those of what they stand for. Assumes nothing.
 use Prim.Native.Nat.{ℕ, zero, suc, _+_, _<_, _≤_}
 use native.Mathlib.Omega.{arith}
-use native.Mathlib.Nat.{not-suc-le-zero}
 use mathlib.Core.Path.{_≡_, refl, sym, ap, _∙_}
 use mathlib.Core.Bool.{Bool, true, false}
 use mathlib.Core.List.{List}
@@ -10,13 +9,11 @@ use lib.Dec.{ltb, eqb, lit<}
 use lib.ListN.{getD, set, length}
 use borrow.Author.Tests.{ltb-false}
 use Rattle.sums.specs.Choice.{if_then_else, sumTo, listTo}
-use Rattle.sums.specs.Fraction.{Frac, partsOf}
+use Rattle.sums.specs.Fraction.{partsOf}
 use Rattle.sums.specs.Figures.{annualDenominator, peakDenominator, tonneParts, gramParts, annualOf, annualParts, peakOf, peakParts}
 use Rattle.sums.specs.Answer.{Contribution, emitted, noEmission}
 use Rattle.sums.specs.declared.answer.Emission.{Emission}
 use Rattle.sums.specs.declared.mixed.Mixed.{Mixed}
-use Rattle.sums.specs.declared.annual.AnnualSum.{AnnualSum}
-use Rattle.sums.specs.declared.peak.PeakSum.{PeakSum}
 use Rattle.sums.proofs.Choices.{cases, listTo-at, listTo-same}
 use Rattle.sums.proofs.Wrapping.{mixed-plus}
 use Rattle.slot_file.specs.Figures.{codes}

@@ -4,16 +4,14 @@ use Prim.Native.Nat.{ℕ, zero, suc, _+_, _*_, _<_, _≤_}
 use native.Mathlib.Omega.{arith}
 use native.Mathlib.Nat.{mul-le-mul, le-refl}
 use mathlib.Core.Path.{_≡_}
-use mathlib.Core.Bool.{Bool, true, false}
+use mathlib.Core.Bool.{true}
 use mathlib.Core.List.{List, [], _∷_}
 use lib.Dec.{eqb}
 use lib.ListN.{getD, length}
-use Rattle.sums.specs.Choice.{if_then_else, listTo}
+use Rattle.sums.specs.Choice.{listTo}
 use Rattle.sums.specs.Fraction.{Frac, partsOf}
-use Rattle.sums.specs.Figures.{tonneParts, gramParts}
 use Rattle.sums.specs.Answer.{Contribution}
 use Rattle.sums.proofs.Choices.{both}
-use Rattle.sums.proofs.Exact.{annualMost, peakMost}
 use Rattle.sums.proofs.Sources.{Bounded}
 use Rattle.stores.specs.Rules.{handlingContribution, standingContribution, aspirationContribution}
 use Rattle.stores.proofs.Bounds.{handling-bounded, standing-bounded, aspiration-bounded}
@@ -28,7 +26,6 @@ use Rattle.slot_file.specs.Meaning.{Good}
 use Rattle.slot_file.specs.Figures.{groupContributions, storeContributions}
 use Rattle.slot_file.specs.Alike.{total}
 use Rattle.slot_file.proofs.Units.{partsTo}
-use Rattle.totals.proofs.Sums.{annualTo, peakTo}
 use Rattle.walk.specs.Walked.{unitsOf}
 use Rattle.walk.proofs.Ranged.{group-in-range, row-in-range, storeInRange, store-answered}
 

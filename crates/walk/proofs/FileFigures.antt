@@ -2,11 +2,10 @@
 -- Assumes nothing.
 use Prim.Native.Nat.{ℕ, _+_, _*_, _%_, _^_, _<_, _≤_}
 use native.Mathlib.Omega.{arith}
-use native.Mathlib.Nat.{lt-of-le-of-lt}
 use mathlib.Core.Path.{_≡_, refl, sym, ap, _∙_}
 use mathlib.Core.List.{List, [], _∷_, map, reverse, reverseAux}
 use lib.Dec.{lit<}
-use lib.ListN.{getD, length}
+use lib.ListN.{getD}
 use Rattle.sums.specs.Choice.{listTo}
 use Rattle.sums.specs.Fraction.{Frac, _over_, whole, _⊙_, _≈_, partsOf}
 use Rattle.sums.specs.Figures as sum
@@ -25,7 +24,6 @@ use Rattle.slot_file.specs.Figures.{groupContributions, storeContributions, con
 use Rattle.slot_file.specs.Alike.{total}
 use Rattle.slot_file.proofs.Units.{Units, total-contributions, partsTo, exact-parts}
 use Rattle.totals.specs.Totals.{figuresOf}
-use Rattle.totals.specs.declared.Figures.{Figures}
 use Rattle.totals.proofs.Sums.{annualTo, peakTo}
 use Rattle.walk.specs.Walked.{unitsOf, sumsOf}
 use Rattle.walk.proofs.Passing.{stores-short}

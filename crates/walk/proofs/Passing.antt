@@ -4,7 +4,6 @@ use native.Mathlib.Omega.{arith}
 use mathlib.Core.Path.{_≡_, refl, ap, subst, _∙_}
 use mathlib.Core.Bool.{Bool, true}
 use mathlib.Core.List.{List, [], _∷_, _++_}
-use lib.IntN.{ℤ}
 use lib.ListN.{getD, length, set, length-append}
 use Rattle.sums.specs.Choice.{if_then_else, listTo}
 use Rattle.sums.specs.Answer.{Contribution, emitted}
@@ -13,8 +12,6 @@ use Rattle.stores.specs.Rules.{handlingContribution, standingContribution, aspi
 use Rattle.stores.proofs.Exactly.{handling-emitted, standing-emitted, aspiration-emitted}
 use Rattle.vehicles.specs.Fields.{noCoefficients}
 use Rattle.vehicles.specs.Rules.{contributionOf, emissionOf, emissionsOf, groupAnswer}
-use Rattle.vehicles.specs.declared.group.Group.{Group}
-use Rattle.vehicles.specs.declared.group.Coefficients.{Coefficients}
 use Rattle.slots.specs.Bytes.{slotOf}
 use Rattle.slots.specs.Layout.{readStore}
 use Rattle.slots.specs.declared.store.Store.{Store}

@@ -1,19 +1,17 @@
 -- A source that nothing is refused of is in range, and has zero soot or lead where it must: so its rule answers what it gives, and never a refusal. Assumes
 -- nothing.
 use Prim.Native.Nat.{ℕ, _<_}
-use mathlib.Core.Path.{_≡_, refl, sym, ap, subst, _∙_}
+use mathlib.Core.Path.{_≡_, refl, sym, subst, _∙_}
 use mathlib.Core.Bool.{Bool, true, false, not}
 use mathlib.Core.List.{List, [], _∷_}
 use lib.Dec.{T, leb, eqb}
-use lib.IntN.{ℤ}
 use lib.ListN.{getD}
 use borrow.Author.Tests.{not-true}
-use Rattle.sums.specs.Choice.{if_then_else, listTo}
+use Rattle.sums.specs.Choice.{if_then_else}
 use Rattle.sums.proofs.Choices.{nth, allTo-of, listTo-at}
 use Rattle.stores.specs.Fields.{handlingInRange, standingInRange, aspirationInRange}
-use Rattle.vehicles.specs.Fields.{noCoefficients, groupInRange, temperaturesInRange, coefficientsInRange, allInRange}
+use Rattle.vehicles.specs.Fields.{noCoefficients, groupInRange, coefficientsInRange, allInRange}
 use Rattle.vehicles.specs.Rules.{inRange, notZero, emissionsOf, groupAnswer}
-use Rattle.vehicles.specs.declared.group.Coefficients.{Coefficients}
 use Rattle.slots.specs.Bytes.{byteAt, numberOf, zeroFrom, slotOf}
 use Rattle.slots.specs.Layout.{groupOf, groupGood, groupRead, coefficientsOf, coefficientsGood, coefficientsRead, handlingOf, handlingGood, standingOf, standingGood, aspirationOf, aspirationGood, storeKind, byKind, storeOf, storeGood, readStore}
 use Rattle.slots.specs.declared.store.Store.{Store}

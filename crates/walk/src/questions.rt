@@ -1,13 +1,10 @@
 // The questions in order: of a list of them, the number and the slot of the first that is answered no, or 0 and 0.
 ghost use mathlib.Core.Path.{_≡_};
-ghost use Prim.Native.Nat.{_+_, _-_, _≤_};
-ghost use mathlib.Core.List.{List};
+ghost use Prim.Native.Nat.{_≤_};
 ghost use lib.ListN.{length};
 ghost use Rattle.slots.specs.Bytes.{slotOf};
-ghost use Rattle.slots.specs.Layout.{headerOf, coefficientsRead};
-ghost use Rattle.slot_file.specs.Sources.{coefficientSlot};
-ghost use Rattle.slot_file.specs.Questions.{headAsks, linkAsks, coefficientHolder, coefficientAsks, reachAsks};
-ghost use Rattle.slot_file.proofs.Marks.{marksOf};
+ghost use Rattle.slots.specs.Layout.{headerOf};
+ghost use Rattle.slot_file.specs.Questions.{headAsks};
 ghost use Rattle.walk.specs.Told.{Told, LinkTold, RowTold, ReachTold};
 use slots::CoefficientsRead;
 use slots::Header;

@@ -1,6 +1,6 @@
 -- A refused walk is answered its refusal; the sums of an accepted file have the figures of its exact sums (`FileFigures`), and its counts are the chains' lengths.
 use borrow.Author.Needs.{needs}
-use mathlib.Core.Path.{_≡_, refl, sym, ap, _∙_}
+use mathlib.Core.Path.{refl, sym, ap, _∙_}
 use mathlib.Core.List.{reverse}
 use lib.ListN.{length-map, length-reverse}
 use Rattle.slot_file.specs.Sources.{groupAt, storeAt, groupsAt, storesAt}
@@ -10,7 +10,6 @@ use Rattle.slot_file.proofs.Verdicts.{only}
 use Rattle.slot_file.proofs.Numbers.{refused-answer}
 use Rattle.slot_file.proofs.Agreement.{accepted-answer}
 use Rattle.totals.specs.Totals.{figuresOf}
-use Rattle.totals.specs.declared.Totals.{Totals}
 use Rattle.walk.proofs.FileFigures.{file-figures}
 use Rattle.walk.proofs.file.answer.Statement.{statement}
 use Rattle.walk.proofs.file.answer.Tie as tie

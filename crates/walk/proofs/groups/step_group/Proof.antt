@@ -1,17 +1,13 @@
 -- The questions of the link, of the coefficient links and of question 11, one after the other; the slots are marked as they are passed.
 use borrow.Author.Needs.{needs}
 use native.Mathlib.Omega.{arith}
-use mathlib.Core.Path.{_≡_, refl, sym, ap, _∙_}
-use mathlib.Core.Bool.{Bool, not, true}
-use mathlib.Core.List.{List}
-use lib.ListN.{set}
-use Prim.Native.Nat.{ℕ}
+use mathlib.Core.Path.{refl, sym, ap, _∙_}
+use mathlib.Core.Bool.{not}
 use Rattle.vehicles.specs.Rules.{notZero}
 use Rattle.slots.specs.Layout.{groupRead}
 use Rattle.slots.specs.declared.group.GroupRead.{GroupRead}
 use Rattle.slot_file.specs.Sources.{groupAt}
 use Rattle.slot_file.specs.Meaning.{here}
-use Rattle.walk.specs.Rows.{marksTo}
 use Rattle.walk.proofs.GroupAsks.{link-told, link-refused, rows-refused, eleven-told}
 use Rattle.walk.proofs.Telling.{told-no, not-refused}
 use Rattle.walk.proofs.groups.step_group.Statement.{statement}

@@ -3,10 +3,10 @@ use borrow.Author.Needs.{needs}
 use borrow.Author.Tests.{not-true, not-false}
 use native.Mathlib.Omega.{arith}
 use Prim.Native.Nat.{ℕ, _≤_, _+_, _-_}
-use mathlib.Core.Path.{_≡_, subst}
+use mathlib.Core.Path.{_≡_}
 use mathlib.Core.List.{List}
-use Rattle.slot_file.specs.Questions.{Question, reachAsks}
-use Rattle.slot_file.specs.Meaning.{AllYes, FirstNo, here}
+use Rattle.slot_file.specs.Questions.{reachAsks}
+use Rattle.slot_file.specs.Meaning.{here}
 use Rattle.slot_file.proofs.Marks.{marksOf}
 use Rattle.walk.proofs.Telling.{told-no, told-yes, marked, Rest, rest-on, reach-turn}
 use Rattle.walk.proofs.questions.ask_reached.Statement.{statement}

@@ -3,9 +3,7 @@ use borrow.Author.Needs.{needs}
 use native.Mathlib.Omega.{arith}
 use Prim.Native.Nat.{ℕ}
 use mathlib.Core.Path.{_≡_, refl, ap, _∙_}
-use mathlib.Core.Bool.{true}
 use mathlib.Core.List.{List, _++_}
-use lib.ListN.{set}
 use Rattle.slots.specs.Layout.{nextOf, readStore, storeNumber}
 use Rattle.slots.specs.declared.store.StoreRead.{StoreRead}
 use Rattle.slot_file.specs.Questions.{lastOf, storeAsks}
