@@ -13,7 +13,7 @@ fn main() {
     let mut room = [0; 65_537];
     let mut spare = [0; 1];
     let n = io::read_full(0, &mut room);
-    if libc::read(0, &mut spare) == 0 {
+    if n == 65_537 || libc::read(0, &mut spare) == 0 {
         show(&room[..n]);
     } else {
         show(&spare[..0]);

@@ -14,7 +14,7 @@ use sums::PeakSum;
 use sums::mixed::Mixed;
 
 // What the case adds to the totals.
-pub fn run(r: &Record) -> [Emission; 6] {
+pub(crate) fn run(r: &Record) -> [Emission; 6] {
     printing::label(r);
     let times = u16_at(r, 34);
     let kind = u8_at(r, 32);

@@ -32,21 +32,21 @@ fn bulk(r: &Record) -> Bulk {
     }
 }
 
-pub fn handling(r: &Record) -> Handling {
+pub(crate) fn handling(r: &Record) -> Handling {
     Handling {
         bulk: bulk(r),
         drop: u8_at(r, 51),
     }
 }
 
-pub fn standing(r: &Record) -> Standing {
+pub(crate) fn standing(r: &Record) -> Standing {
     Standing {
         bulk: bulk(r),
         k6: u16_at(r, 56),
     }
 }
 
-pub fn aspiration(r: &Record) -> Aspiration {
+pub(crate) fn aspiration(r: &Record) -> Aspiration {
     Aspiration {
         dust: u8_at(r, 40),
         store: u16_at(r, 42),
@@ -83,7 +83,7 @@ fn days(r: &Record) -> [u8; 12] {
     ]
 }
 
-pub fn group(r: &Record) -> Group {
+pub(crate) fn group(r: &Record) -> Group {
     Group {
         category: u8_at(r, 40),
         fuel: u8_at(r, 41),
@@ -103,7 +103,7 @@ pub fn group(r: &Record) -> Group {
     }
 }
 
-pub fn temperatures(r: &Record) -> [i16; 12] {
+pub(crate) fn temperatures(r: &Record) -> [i16; 12] {
     [
         i16_at(r, 84),
         i16_at(r, 86),
@@ -138,7 +138,7 @@ fn pollutant(r: &Record, at: usize) -> Coefficients
     }
 }
 
-pub fn coefficients(r: &Record) -> [Coefficients; 6] {
+pub(crate) fn coefficients(r: &Record) -> [Coefficients; 6] {
     [
         pollutant(r, 108),
         pollutant(r, 136),

@@ -1,40 +1,40 @@
 // The numbers in a record.
 ghost use Prim.Native.Nat.{_+_, _<_, _≤_};
 
-pub type Record = [u8; 320];
+pub(crate) type Record = [u8; 320];
 
-pub fn u8_at(r: &Record, at: usize) -> u8
+pub(crate) fn u8_at(r: &Record, at: usize) -> u8
     requires { ⌜ at < 320 ⌝ }
 {
     r[at]
 }
 
-pub fn is_at(r: &Record, at: usize) -> bool
+pub(crate) fn is_at(r: &Record, at: usize) -> bool
     requires { ⌜ at < 320 ⌝ }
 {
     r[at] == 1
 }
 
-pub fn u16_at(r: &Record, at: usize) -> u16
+pub(crate) fn u16_at(r: &Record, at: usize) -> u16
     requires { ⌜ at + 2 ≤ 320 ⌝ }
 {
     wide16(r[at]) + 256 * wide16(r[at + 1])
 }
 
-pub fn u32_at(r: &Record, at: usize) -> u32
+pub(crate) fn u32_at(r: &Record, at: usize) -> u32
     requires { ⌜ at + 4 ≤ 320 ⌝ }
 {
     wide32(u16_at(r, at)) + 65_536 * wide32(u16_at(r, at + 2))
 }
 
-pub fn u64_at(r: &Record, at: usize) -> u64
+pub(crate) fn u64_at(r: &Record, at: usize) -> u64
     requires { ⌜ at + 8 ≤ 320 ⌝ }
 {
     wide64(u32_at(r, at)) + 4_294_967_296 * wide64(u32_at(r, at + 4))
 }
 
 // By two's complement.
-pub fn i16_at(r: &Record, at: usize) -> i16
+pub(crate) fn i16_at(r: &Record, at: usize) -> i16
     requires { ⌜ at + 2 ≤ 320 ⌝ }
 {
     signed(u16_at(r, at))

@@ -7,7 +7,7 @@ use sums::Verdict;
 use sums::mixed::Mixed;
 
 // The record's first 32 bytes.
-pub fn label(r: &Record) {
+pub(crate) fn label(r: &Record) {
     front(r, 32);
     space();
 }
@@ -36,7 +36,7 @@ fn mixed(m: Mixed) {
     number(m.part);
 }
 
-pub fn verdict(v: Verdict) {
+pub(crate) fn verdict(v: Verdict) {
     number(v.number as u64);
     space();
     number(v.slot as u64);
@@ -44,7 +44,7 @@ pub fn verdict(v: Verdict) {
 }
 
 // Both sums and their figures.
-pub fn sums(e: Emission) {
+pub(crate) fn sums(e: Emission) {
     let annual = e.annual;
     let peak = e.peak;
     mixed(annual.0);
@@ -57,7 +57,7 @@ pub fn sums(e: Emission) {
     line_end();
 }
 
-pub fn all_sums(six: [Emission; 6]) {
+pub(crate) fn all_sums(six: [Emission; 6]) {
     sums(six[0]);
     sums(six[1]);
     sums(six[2]);
@@ -66,13 +66,13 @@ pub fn all_sums(six: [Emission; 6]) {
     sums(six[5]);
 }
 
-pub fn emission(e: Emission) {
+pub(crate) fn emission(e: Emission) {
     number(e.code as u64);
     space();
     sums(e);
 }
 
-pub fn all_emissions(six: [Emission; 6]) {
+pub(crate) fn all_emissions(six: [Emission; 6]) {
     emission(six[0]);
     emission(six[1]);
     emission(six[2]);
@@ -81,7 +81,7 @@ pub fn all_emissions(six: [Emission; 6]) {
     emission(six[5]);
 }
 
-pub fn added(times: u16) {
+pub(crate) fn added(times: u16) {
     io::write_all(1, b"added ");
     number(times as u64);
     line_end();
@@ -92,15 +92,15 @@ fn mixed_line(m: Mixed) {
     line_end();
 }
 
-pub fn annual_sum(s: AnnualSum) {
+pub(crate) fn annual_sum(s: AnnualSum) {
     mixed_line(s.0);
 }
 
-pub fn peak_sum(s: PeakSum) {
+pub(crate) fn peak_sum(s: PeakSum) {
     mixed_line(s.0);
 }
 
-pub fn figure(n: u64) {
+pub(crate) fn figure(n: u64) {
     number(n);
     line_end();
 }

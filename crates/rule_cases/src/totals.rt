@@ -1,13 +1,13 @@
 // Running totals, by `plus` alone.
 use sums::Emission;
 
-pub fn zero() -> [Emission; 6] {
+pub(crate) fn zero() -> [Emission; 6] {
     let none = Emission::none();
     [none; 6]
 }
 
 // One emission, and none in the other places.
-pub fn first(e: Emission) -> [Emission; 6] {
+pub(crate) fn first(e: Emission) -> [Emission; 6] {
     let mut six = zero();
     six[0] = e;
     six
@@ -26,7 +26,7 @@ fn plus(a: Emission, b: Emission) -> Emission {
     }
 }
 
-pub fn joined(a: [Emission; 6], b: [Emission; 6]) -> [Emission; 6] {
+pub(crate) fn joined(a: [Emission; 6], b: [Emission; 6]) -> [Emission; 6] {
     [
         plus(a[0], b[0]),
         plus(a[1], b[1]),
@@ -37,7 +37,7 @@ pub fn joined(a: [Emission; 6], b: [Emission; 6]) -> [Emission; 6] {
     ]
 }
 
-pub fn repeated(six: [Emission; 6], times: u16) -> [Emission; 6] {
+pub(crate) fn repeated(six: [Emission; 6], times: u16) -> [Emission; 6] {
     let mut total = zero();
     let mut left = times;
     while left > 0 {

@@ -16,7 +16,7 @@ use Rattle.slot_file.specs.Questions.{accepted}
 use Rattle.slot_file.specs.Walk.{verdict}
 use Rattle.slot_file.specs.Sources.{VehicleGroup, groupsAt, storesAt, temperaturesAt}
 use Rattle.slot_file.specs.Figures.{groupContributions, storeContributions, contributions, exactSum, annualFigure, peakFigure, codes, summed, answered, answer}
-use Rattle.slot_file.specs.Alike.{total, sameGroup, sameStore, alike}
+use Rattle.slot_file.specs.Alike.{total, sameGroup, sameStore, alike, AlikeFiles}
 use Rattle.slot_file.proofs.Bag.{alike-total, alike-length}
 use Rattle.slot_file.proofs.Same.{group-sound, group-same, store-sound, store-same}
 use Rattle.slot_file.proofs.Units.{Units, total-contributions, partsTo, exact-parts}
@@ -56,14 +56,9 @@ accepted-answer s gs ss e = rw e
 -- DEMAND 3: "Every two such files alike in the twelve temperatures, month by month, in their vehicle groups, each with its own coefficients for the six pollutants,
 -- and in their store records, repeats included, get the same answers: every annual figure, every peak figure and both counts. This holds whatever order either file
 -- has its slots and chains in, and however either shares its coefficient slots": the two accepted files are s and t, with any chains
-pub agreement :
-    (s t gs ss hs qs : List ℕ) → verdict s ≡ accepted gs ss → verdict t ≡ accepted hs qs
-    → temperaturesAt s ≡ temperaturesAt t
-    → alike sameGroup (groupsAt s gs) (groupsAt t hs) ≡ true
-    → alike sameStore (storesAt s ss) (storesAt t qs) ≡ true
-    → answer s ≡ answer t
-agreement s t gs ss hs qs v w m e l =
+pub agreement : (s t gs ss hs qs : List ℕ) → verdict s ≡ accepted gs ss → verdict t ≡ accepted hs qs → AlikeFiles s gs ss t hs qs → answer s ≡ answer t
+agreement s t gs ss hs qs v w a =
     accepted-answer s gs ss v
-    ∙ ap (λ (ts : List ℤ). summed ts (groupsAt s gs) (storesAt s ss)) m
-    ∙ same-answer (temperaturesAt t) (groupsAt s gs) (groupsAt t hs) (storesAt s ss) (storesAt t qs) e l
+    ∙ ap (λ (ts : List ℤ). summed ts (groupsAt s gs) (storesAt s ss)) (a .temperatures)
+    ∙ same-answer (temperaturesAt t) (groupsAt s gs) (groupsAt t hs) (storesAt s ss) (storesAt t qs) (a .groups) (a .stores)
     ∙ sym (accepted-answer t hs qs w)

@@ -4,7 +4,7 @@ use native.Mathlib.Omega.{arith}
 use mathlib.Core.Path.{_≡_}
 use mathlib.Core.List.{List, [], _∷_, _++_}
 use Rattle.slots.specs.Bytes.{slotOf}
-use Rattle.slots.specs.Layout.{groupRead, readStore, storeNumber}
+use Rattle.slots.specs.Layout.{groupRead, readStore, readNumber}
 use Rattle.slot_file.specs.Questions.{Question, lastOf, headAsks, linkAsks, coefficientAsks, rowsAsks, closingAsks, groupAsks, storeAsks, reachAsks, lastAsks, accepted, refused}
 use Rattle.slot_file.specs.Walk.{verdict}
 use Rattle.slot_file.specs.Meaning.{FirstNo, here, later, Refuses, at-head, at-group, at-store, at-last}
@@ -54,7 +54,7 @@ group-numbered s b g =
 
 store-numbered : (s gs b : List ℕ) (k : ℕ) → Numbered (storeAsks s gs b k)
 unfolding storeAsks
-store-numbered s gs b k = link-numbered s (lastOf b) (b ++ gs) k (storeNumber (readStore (slotOf s k)))
+store-numbered s gs b k = link-numbered s (lastOf b) (b ++ gs) k (readNumber (readStore (slotOf s k)))
 
 reach-numbered : (n i : ℕ) (l : List ℕ) → Numbered (reachAsks n i l)
 unfolding reachAsks

@@ -16,7 +16,7 @@ use Rattle.stores.specs.declared.records.Bulk.{Bulk}
 use Rattle.slots.specs.declared.store.Store.{Store}
 use Rattle.slots.specs.declared.store.Store.the-variants.{Handling, Standing, Aspiration}
 use Rattle.slot_file.specs.Sources.{VehicleGroup}
-use Rattle.slot_file.specs.Alike.{sameBool, sameList, sameMinute, sameKilometre, coefficientTests, sameCoefficients, groupNumbers, groupTests, sameGroup, storeNumbers, sameStore}
+use Rattle.slot_file.specs.Alike.{sameBool, sameList, sameMinute, sameKilometre, coefficientTests, sameCoefficients, groupNumbers, groupTests, sameGroup, storeFields, sameStore}
 
 bool-sound : (a b : Bool) → sameBool a b ≡ true → a ≡ b
 bool-sound true true e = refl
@@ -119,19 +119,19 @@ bulkFrom l = record {
 pub store-sound : (x y : Store) → sameStore x y ≡ true → x ≡ y
 unfolding sameStore sameList bulkFrom
 store-sound (Handling h) (Handling g) e =
-    let p = list-sound eqb eqb-true (storeNumbers (Handling h)) (storeNumbers (Handling g)) e in
+    let p = list-sound eqb eqb-true (storeFields (Handling h)) (storeFields (Handling g)) e in
     λ i. Handling (record { bulk = bulkFrom (p i); drop = getD (p i) 1 0 })
 store-sound (Handling h) (Standing g) e = cc
 store-sound (Handling h) (Aspiration g) e = cc
 store-sound (Standing h) (Handling g) e = cc
 store-sound (Standing h) (Standing g) e =
-    let p = list-sound eqb eqb-true (storeNumbers (Standing h)) (storeNumbers (Standing g)) e in
+    let p = list-sound eqb eqb-true (storeFields (Standing h)) (storeFields (Standing g)) e in
     λ i. Standing (record { bulk = bulkFrom (p i); k6 = getD (p i) 1 0 })
 store-sound (Standing h) (Aspiration g) e = cc
 store-sound (Aspiration h) (Handling g) e = cc
 store-sound (Aspiration h) (Standing g) e = cc
 store-sound (Aspiration h) (Aspiration g) e =
-    let p = list-sound eqb eqb-true (storeNumbers (Aspiration h)) (storeNumbers (Aspiration g)) e in
+    let p = list-sound eqb eqb-true (storeFields (Aspiration h)) (storeFields (Aspiration g)) e in
     λ i. Aspiration (record {
       dust = getD (p i) 1 0;
       store = getD (p i) 2 0;
@@ -143,4 +143,4 @@ store-sound (Aspiration h) (Aspiration g) e =
 
 pub store-same : (x : Store) → sameStore x x ≡ true
 unfolding sameStore
-store-same x = list-same eqb number-same (storeNumbers x)
+store-same x = list-same eqb number-same (storeFields x)

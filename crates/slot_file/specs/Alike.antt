@@ -1,6 +1,7 @@
 -- 01, "Figures": when two sources are alike, and when two files are alike in their groups or in their store records. Sources have no next index and no first
 -- coefficient slot (`Sources`), so two that are alike are equal: each test below goes by every field.
 use Prim.Native.Nat.{ℕ, _+_}
+use mathlib.Core.Path.{_≡_}
 use mathlib.Core.Bool.{Bool, true, false, _&&_, not}
 use mathlib.Core.List.{List, [], _∷_, _++_}
 use lib.Dec.{eqb}
@@ -12,7 +13,7 @@ use Rattle.vehicles.specs.declared.group.Coefficients.{Coefficients}
 use Rattle.stores.specs.declared.records.Bulk.{Bulk}
 use Rattle.slots.specs.declared.store.Store.{Store}
 use Rattle.slots.specs.declared.store.Store.the-variants.{Handling, Standing, Aspiration}
-use Rattle.slot_file.specs.Sources.{VehicleGroup}
+use Rattle.slot_file.specs.Sources.{VehicleGroup, groupsAt, storesAt, temperaturesAt}
 
 abbrev pub sameBool : Bool → Bool → Bool
 sameBool true b = b
@@ -59,13 +60,13 @@ abbrev pub bulkNumbers : Bulk → List ℕ
 bulkNumbers b = b .dust ∷ b .store ∷ b .material ∷ b .wind ∷ b .moisture ∷ b .grain ∷ b .openness ∷ b .amount ∷ []
 
 -- a store record's kind and fields
-abbrev pub storeNumbers : Store → List ℕ
-storeNumbers (Handling h) = 3 ∷ h .drop ∷ bulkNumbers (h .bulk)
-storeNumbers (Standing s) = 4 ∷ s .k6 ∷ bulkNumbers (s .bulk)
-storeNumbers (Aspiration a) = 5 ∷ a .dust ∷ a .store ∷ a .concentration ∷ a .flow ∷ a .capture ∷ a .hours ∷ []
+abbrev pub storeFields : Store → List ℕ
+storeFields (Handling h) = 3 ∷ h .drop ∷ bulkNumbers (h .bulk)
+storeFields (Standing s) = 4 ∷ s .k6 ∷ bulkNumbers (s .bulk)
+storeFields (Aspiration a) = 5 ∷ a .dust ∷ a .store ∷ a .concentration ∷ a .flow ∷ a .capture ∷ a .hours ∷ []
 
 unfoldable pub sameStore : Store → Store → Bool
-sameStore x y = sameList eqb (storeNumbers x) (storeNumbers y)
+sameStore x y = sameList eqb (storeFields x) (storeFields y)
 
 abbrev pub bit : Bool → ℕ
 bit true = 1
@@ -88,3 +89,10 @@ all p (x ∷ xs) = p x && all p xs
 -- in any order"
 abbrev pub alike : {A : Type 0} → (A → A → Bool) → List A → List A → Bool
 alike same l m = all (λ z. eqb (count same z l) (count same z m)) (l ++ m)
+
+-- the letter's third demand: "alike in the twelve temperatures, month by month, in their vehicle groups, each with its own coefficients for the six pollutants, and in
+-- their store records, repeats included", of the file s with the chains gs and ss and the file t with the chains hs and qs
+pub record AlikeFiles (s gs ss t hs qs : List ℕ) : Type 0 where
+  pub temperatures : temperaturesAt s ≡ temperaturesAt t
+  pub groups : alike sameGroup (groupsAt s gs) (groupsAt t hs) ≡ true
+  pub stores : alike sameStore (storesAt s ss) (storesAt t qs) ≡ true

@@ -8,7 +8,7 @@ use Rattle.sums.specs.Choice.{if_then_else}
 use Rattle.vehicles.specs.Fields.{temperaturesInRange}
 use Rattle.vehicles.specs.Rules.{notZero}
 use Rattle.slots.specs.Bytes.{slotOf}
-use Rattle.slots.specs.Layout.{headerOf, groupRead, coefficientsRead, readStore, storeNumber}
+use Rattle.slots.specs.Layout.{headerOf, groupRead, coefficientsRead, readStore, readNumber}
 use Rattle.slot_file.specs.Sources.{coefficientSlot, groupAt}
 
 pub record Question : Type 0 where
@@ -75,10 +75,14 @@ unfoldable pub rowsAsks : List ℕ → ℕ → ℕ → List Question
 rowsAsks s g zero = []
 rowsAsks s g (suc n) = rowsAsks s g n ++ coefficientAsks s g n
 
--- "after the sixth, next is zero (10); then 11 for the group": "the group for 11, the sixth coefficient slot where its next isn't zero"
+-- "after the sixth, next is zero (10)": at "the sixth coefficient slot where its next isn't zero"
+abbrev pub afterSixth : List ℕ → ℕ → Question
+afterSixth s g = question (eqb (coefficientSlot s g 6) 0) 10 (coefficientSlot s g 5)
+
+-- "then 11 for the group": "the group for 11"
 unfoldable pub closingAsks : List ℕ → ℕ → List Question
 closingAsks s g =
-    question (eqb (coefficientSlot s g 6) 0) 10 (coefficientSlot s g 5)  -- "Does the coefficient chain hold pollutants 1 to 6 in order, then end?"
+    afterSixth s g  -- "Does the coefficient chain hold pollutants 1 to 6 in order, then end?"
     ∷ question (not (notZero (groupAt s g .group) (groupAt s g .coefficients))) 11 g  -- "Is soot zero throughout for petrol, lead for diesel?"
     ∷ []
 
@@ -101,7 +105,7 @@ groupAsks s b g =
 
 -- all that is asked of a link k to a store record, after the groups gs and the store records b
 unfoldable pub storeAsks : List ℕ → List ℕ → List ℕ → ℕ → List Question
-storeAsks s gs b k = linkAsks s (lastOf b) (b ++ gs) k (storeNumber (readStore (slotOf s k)))
+storeAsks s gs b k = linkAsks s (lastOf b) (b ++ gs) k (readNumber (readStore (slotOf s k)))
 
 -- "Is each slot from 1 up reached?": n slots from i up, so that the first that is not is "the lowest unreached"
 unfoldable pub reachAsks : ℕ → ℕ → List ℕ → List Question

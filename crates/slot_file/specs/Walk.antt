@@ -14,7 +14,7 @@ first [] v = v
 first (q ∷ qs) v = if_then_else (q .answer) (first qs v) (refused (q .number) (q .slot))
 
 -- a chain from the link k on, after the slots b, the last first: `asks` has what is asked of a link, "zero ends it", and then comes `end`. A chain of different
--- slots below 1,024 is shorter than n, which is 1,024 where the chain begins
+-- slots below 1,024 is shorter than n, which is 1,024 where the chain begins: so the case of none left is never met (`Verdicts.says`)
 unfoldable pub chain : (List ℕ → ℕ → List Question) → (List ℕ → Verdict) → ℕ → List ℕ → List ℕ → ℕ → Verdict
 chain asks end zero s b k = refused 7 k
 chain asks end (suc n) s b k = if_then_else (eqb k 0) (end b) (first (asks b k) (chain asks end n s (k ∷ b) (nextOf (slotOf s k))))

@@ -163,11 +163,11 @@ unfoldable pub readStore : List ℕ → StoreRead
 readStore t = if_then_else (storeKind t) (readBy (storeGood t) (storeOf t)) WrongKind
 
 -- "For any answer that is an enum, a definition gives this paper's number and values for each of its cases": the number of a read; its value is the record
-abbrev pub storeNumber : StoreRead → ℕ
-storeNumber (Record r) = 0
-storeNumber WrongKind = 8
-storeNumber OutOfRange = 9
+abbrev pub readNumber : StoreRead → ℕ
+readNumber (Record r) = 0
+readNumber WrongKind = 8
+readNumber OutOfRange = 9
 
 -- a store record's read is right where it is the one of the slot, with the paper's number
 abbrev pub StoreReads : List ℕ → StoreRead → Type 0
-StoreReads t r = (r ≡ readStore t) × (storeNumber r ≡ numberOf (storeKind t) (storeGood t))
+StoreReads t r = (r ≡ readStore t) × (readNumber r ≡ numberOf (storeKind t) (storeGood t))

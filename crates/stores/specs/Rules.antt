@@ -126,7 +126,7 @@ standingContribution s = contribution (codeOf (s .bulk .dust)) (bulkTonnes (stan
 abbrev pub aspirationContribution : Aspiration → Contribution
 aspirationContribution a = contribution (codeOf (a .dust)) (aspirationTonnes (aspirationPeak a) (a .hours)) (aspirationPeak a)
 
--- a record in range is answered what it gives; one out of range is refused 9, with zero figures and slot 0
+-- a record in range is answered what it gives, exactly (`Exactly.handling-exactly`, `standing-exactly`, `aspiration-exactly`); one out of range is refused 9, with zero figures and slot 0
 abbrev pub answer : Contribution → StoreAnswer
 answer x = record { verdict = accepted; emission = emitted x }
 

@@ -138,7 +138,7 @@ unfoldable pub notZero : Group → List Coefficients → Bool
 notZero g ks =
     (eqb (g .fuel) 1 && not (allZero (getD ks 3 noCoefficients))) || (eqb (g .fuel) 2 && not (allZero (getD ks 5 noCoefficients)))
 
--- "with zero figures and slot 0"
+-- "with zero figures and slot 0"; what is not refused is answered exactly (`Bounds.group-exactly`)
 abbrev pub refused : ℕ → GroupAnswer
 refused n = record { verdict = refusedBy n; emissions = replicate 6 noEmission }
 

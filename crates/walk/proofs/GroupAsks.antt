@@ -3,17 +3,20 @@ use Prim.Native.Nat.{ℕ}
 use mathlib.Core.Path.{_≡_, sym, ap, _∙_, subst}
 use mathlib.Core.Bool.{Bool, not}
 use mathlib.Core.List.{List, [], _∷_, _++_, append-assoc}
+use native.Mathlib.Omega.{arith}
+use native.Mathlib.Decide.{decLt}
 use Rattle.sums.specs.declared.answer.Verdict.{Verdict}
 use Rattle.vehicles.specs.Rules.{notZero}
+use Rattle.vehicles.specs.declared.group.Group.{Group}
+use Rattle.vehicles.specs.declared.group.Coefficients.{Coefficients}
 use Rattle.slots.specs.Bytes.{slotOf}
 use Rattle.slots.specs.Layout.{groupRead}
 use Rattle.slots.specs.declared.group.GroupRead.{GroupRead}
 use Rattle.slot_file.specs.Sources.{groupAt}
-use Rattle.slot_file.specs.Questions.{Question, question, lastOf, linkAsks, rowsAsks, closingAsks, groupAsks}
+use Rattle.slot_file.specs.Questions.{Question, question, lastOf, linkAsks, rowsAsks, closingAsks, groupAsks, afterSixth}
 use Rattle.slot_file.specs.Meaning.{AllYes}
 use Rattle.slot_file.proofs.Marks.{marksOf}
-use Rattle.walk.specs.Told.{Told, LinkTold}
-use Rattle.walk.specs.Rows.{afterSixth}
+use Rattle.walk.specs.Told.{Told, LinkTold, SootTold}
 use Rattle.walk.proofs.Telling.{told-before, told-after}
 
 module _ (s b : List ℕ) (g : ℕ) where
@@ -38,8 +41,15 @@ module _ (s b : List ℕ) (g : ℕ) where
     pub link-refused : Told link v → (v .number ≡ 0 → ⊥) → Told (groupAsks s b g) v
     link-refused t z = subst (λ (l : List Question). Told l v) asks-are (told-before link (rows ++ eleven) t z)
 
-    pub rows-refused : AllYes link → Told rows v → (v .number ≡ 0 → ⊥) → Told (groupAsks s b g) v
-    rows-refused a t z = subst (λ (l : List Question). Told l v) asks-are (told-after link (rows ++ eleven) a (told-before rows eleven t z))
+  -- what was told of the coefficient links, and then of question 11
+  module _ {before v : Verdict} {h : Group} {ks : List Coefficients} (t : SootTold before h ks g v) where
+    pub told-before-eleven : v .number ≡ 0 → before .number ≡ 0
+    told-before-eleven y = elim (decLt 0 (before .number)) [ yes l ↦ sym (ap (λ (x : Verdict). x .number) (t .kept (λ z. omega arith))) ∙ y | no l ↦ omega arith ]
 
-    pub eleven-told : AllYes link → AllYes rows → Told eleven v → Told (groupAsks s b g) v
-    eleven-told a r t = subst (λ (l : List Question). Told l v) asks-are (told-after link (rows ++ eleven) a (told-after rows eleven r t))
+    pub eleven-told : AllYes link → Told rows before → h ≡ groupAt s g .group → (before .number ≡ 0 → ks ≡ groupAt s g .coefficients) → Told (groupAsks s b g) v
+    eleven-told a r e f =
+        subst (λ (l : List Question). Told l v) asks-are (told-after link (rows ++ eleven) a (elim (decLt 0 (before .number)) [
+          | yes l ↦ (let z : before .number ≡ 0 → ⊥ = λ z. omega arith in subst (Told (rows ++ eleven)) (sym (t .kept z)) (told-before rows eleven r z))
+          | no l ↦ (let z : before .number ≡ 0 = omega arith in
+              told-after rows eleven (r .all z) (subst (λ (x : Bool). Told (question (not x) 11 g ∷ []) v) (λ i. notZero (e i) (f z i)) (t .told z)))
+        ]))

@@ -3,20 +3,15 @@ use Prim.Native.Nat.{ℕ, zero, suc}
 use mathlib.Core.Path.{_≡_}
 use mathlib.Core.Bool.{Bool, true}
 use mathlib.Core.List.{List, [], _∷_, _++_}
-use lib.Dec.{eqb}
 use lib.ListN.{set, replicate}
 use Rattle.vehicles.specs.declared.group.Coefficients.{Coefficients}
 use Rattle.slot_file.specs.Sources.{coefficientSlot, groupAt}
-use Rattle.slot_file.specs.Questions.{Question, question, rowsAsks}
+use Rattle.slot_file.specs.Questions.{afterSixth, rowsAsks}
 use Rattle.walk.specs.Told.{Told}
 use Rattle.walk.specs.declared.rows.Rows.{Rows}
 
 abbrev pub noRow : Coefficients
 noRow = record { warmup = replicate 3 (record { 0 = 0 }); run = replicate 3 (record { 0 = 0 }); idle = record { 0 = 0 } }
-
--- "after the sixth, next is zero (10)"
-abbrev pub afterSixth : List ℕ → ℕ → Question
-afterSixth s g = question (eqb (coefficientSlot s g 6) 0) 10 (coefficientSlot s g 5)
 
 -- the marks with the first n coefficient slots of g
 unfoldable pub marksTo : List ℕ → ℕ → List Bool → ℕ → List Bool

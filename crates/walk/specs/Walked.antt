@@ -32,7 +32,7 @@ abbrev pub unitsOf : (Contribution → ℕ) → List ℕ → List ℕ → List �
 unitsOf f s gs ss =
     total (λ (g : ℕ). total f (groupContributions (temperaturesAt s) (groupAt s g))) gs + total (λ (k : ℕ). total f (storeContributions (storeAt s k))) ss
 
--- "after each step of the walk its sums are the exact sums of the sources passed so far"
+-- the exact sums of the sources passed so far
 abbrev pub sumsOf : List ℕ → List ℕ → List ℕ → Totals
 sumsOf s gs ss = totalsOf (λ (c : ℕ). unitsOf (annualTo c) s gs ss) (λ (c : ℕ). unitsOf (peakTo c) s gs ss)
 

@@ -51,7 +51,7 @@ fn step_group(
             verdict,
             group,
             coefficients: rows::no_rows(),
-            next: 0,
+            next: read.next,
         };
     }
     let k = link as usize;
@@ -60,24 +60,8 @@ fn step_group(
     let rows = rows::read_rows(file, reached, link, read.first);
     let verdict = rows.verdict;
     let coefficients = rows.coefficients;
-    if verdict.number != 0 {
-        return GroupStep {
-            verdict,
-            group,
-            coefficients,
-            next: 0,
-        };
-    }
-    if vehicles::forbidden_soot_or_lead(group, coefficients) {
-        return GroupStep {
-            verdict: questions::refuse(11, link),
-            group,
-            coefficients,
-            next: 0,
-        };
-    }
     GroupStep {
-        verdict,
+        verdict: questions::ask_soot_and_lead(verdict, group, coefficients, link),
         group,
         coefficients,
         next: read.next,

@@ -5,10 +5,12 @@ ghost use lib.ListN.{length};
 ghost use Rattle.slots.specs.Bytes.{slotOf};
 ghost use Rattle.slots.specs.Layout.{headerOf};
 ghost use Rattle.slot_file.specs.Questions.{headAsks};
-ghost use Rattle.walk.specs.Told.{Told, LinkTold, RowTold, ReachTold};
+ghost use Rattle.walk.specs.Told.{Told, LinkTold, RowTold, SootTold, ReachTold};
 use slots::CoefficientsRead;
 use slots::Header;
 use sums::Verdict;
+use vehicles::Coefficients;
+use vehicles::Group;
 
 pub(crate) fn accept() -> Verdict
     ensures { λ r. ⌜ r ≡ record { number = 0; slot = 0 } ⌝ }
@@ -101,6 +103,24 @@ pub(crate) fn ask_row(
         return refuse(10, link);
     }
     accept()
+}
+
+// Question 11, of a group that was told `before` by the questions before it.
+pub(crate) fn ask_soot_and_lead(
+    before: Verdict,
+    group: Group,
+    coefficients: [Coefficients; 6],
+    link: u16,
+) -> Verdict
+    ensures { λ r. ⌜ SootTold before group coefficients link r ⌝ }
+{
+    if before.number != 0 {
+        return before;
+    }
+    if vehicles::forbidden_soot_or_lead(group, coefficients) {
+        return refuse(11, link);
+    }
+    before
 }
 
 // Question 12, of each slot from 1 up.

@@ -2,7 +2,7 @@
 ghost use mathlib.Core.Path.{_≡_};
 ghost use Prim.Native.Nat.{_≤_};
 ghost use lib.ListN.{length};
-ghost use Rattle.slots.specs.Layout.{storeNumber};
+ghost use Rattle.slots.specs.Layout.{readNumber};
 ghost use Rattle.walk.specs.Steps.{StoreStepped};
 ghost use Rattle.walk.specs.Walked.{recordEmission, storeEmission, plusStore, StoresBegin, StoresWalked};
 use super::questions;
@@ -22,7 +22,7 @@ pub(crate) struct StoreStep {
 }
 
 fn number_of(read: StoreRead) -> u8
-    ensures { λ r. ⌜ r ≡ storeNumber read ⌝ }
+    ensures { λ r. ⌜ r ≡ readNumber read ⌝ }
 {
     match read {
         StoreRead::Record(_) => 0,

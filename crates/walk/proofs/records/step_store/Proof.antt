@@ -4,7 +4,7 @@ use native.Mathlib.Omega.{arith}
 use Prim.Native.Nat.{ℕ}
 use mathlib.Core.Path.{_≡_, refl, ap, _∙_}
 use mathlib.Core.List.{List, _++_}
-use Rattle.slots.specs.Layout.{nextOf, readStore, storeNumber}
+use Rattle.slots.specs.Layout.{nextOf, readStore, readNumber}
 use Rattle.slots.specs.declared.store.StoreRead.{StoreRead}
 use Rattle.slot_file.specs.Questions.{lastOf, storeAsks}
 use Rattle.slot_file.proofs.Marks.{marksOf}
@@ -21,7 +21,7 @@ returns c =
     let s = a .args .file .now in
     let e = l .before .before .before .read-store .ensures .0 ∙ ap readStore t in
     let told : (gs b : List ℕ) → a .args .sources .now ≡ marksOf (b ++ gs) → a .args .holder ≡ lastOf b → Told (storeAsks s gs b (a .args .link)) _ =
-    λ gs b. store-told s gs b (l .ask-link .ensures) (l .before .number-of .ensures ∙ ap (λ (r : StoreRead). storeNumber r) e) (a .pre .1) in
+    λ gs b. store-told s gs b (l .ask-link .ensures) (l .before .number-of .ensures ∙ ap (λ (r : StoreRead). readNumber r) e) (a .pre .1) in
     record { read = e; told = told; passed = λ y. absurd (c .if1 .taken y) }
 
 element-write-sources : tie.Need-element-write-sources
@@ -38,7 +38,7 @@ returns-2 c =
     let s = a .args .file .now in
     let e = l .before .before .before .read-store .ensures .0 ∙ ap readStore t in
     let told : (gs b : List ℕ) → a .args .sources .now ≡ marksOf (b ++ gs) → a .args .holder ≡ lastOf b → Told (storeAsks s gs b (a .args .link)) _ =
-    λ gs b. store-told s gs b (l .ask-link .ensures) (l .before .number-of .ensures ∙ ap (λ (r : StoreRead). storeNumber r) e) (a .pre .1) in
+    λ gs b. store-told s gs b (l .ask-link .ensures) (l .before .number-of .ensures ∙ ap (λ (r : StoreRead). readNumber r) e) (a .pre .1) in
     record { read = e; told = told; passed = λ _. record { next = c .next-of .ensures ∙ ap nextOf t; source-marked = refl; slot-marked = refl } }
 
 pub step-store-spec : {M : Type 1} → statement M

@@ -14,9 +14,9 @@ use Rattle.slots.specs.Bytes.{slotOf}
 use Rattle.slots.specs.Layout.{coefficientsRead}
 use Rattle.slots.specs.declared.coefficients.CoefficientsRead.{CoefficientsRead}
 use Rattle.slot_file.specs.Sources.{coefficientSlot, groupAt}
-use Rattle.slot_file.specs.Questions.{slotCount, coefficientHolder, coefficientAsks, rowsAsks}
+use Rattle.slot_file.specs.Questions.{slotCount, coefficientHolder, coefficientAsks, rowsAsks, afterSixth}
 use Rattle.slot_file.specs.Meaning.{AllYes, here}
-use Rattle.walk.specs.Rows.{afterSixth, marksTo}
+use Rattle.walk.specs.Rows.{marksTo}
 use Rattle.walk.proofs.Telling.{told-no, told-yes, not-refused, all-append, no-before, no-after}
 use Rattle.walk.proofs.SixRows.{rows-yes, rows-no}
 use Rattle.walk.proofs.rows.read_rows.Statement.{statement}
