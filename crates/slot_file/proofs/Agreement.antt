@@ -19,7 +19,8 @@ use Rattle.slot_file.specs.Figures.{groupContributions, storeContributio
 use Rattle.slot_file.specs.Alike.{total, sameGroup, sameStore, alike, AlikeFiles}
 use Rattle.slot_file.proofs.Bag.{alike-total, alike-length}
 use Rattle.slot_file.proofs.Same.{group-sound, group-same, store-sound, store-same}
-use Rattle.slot_file.proofs.Units.{Units, total-contributions, partsTo, exact-parts}
+use Rattle.slot_file.proofs.Units.{Units, total-contributions, exact-parts}
+use Rattle.slot_file.specs.Parts.{partsTo}
 
 module _ (ts : List ℤ) (gs hs : List VehicleGroup) (rs qs : List Store) (e : alike sameGroup gs hs ≡ true) (l : alike sameStore rs qs ≡ true) where
   total-alike : (f : Contribution → ℕ) → total f (contributions ts gs rs) ≡ total f (contributions ts hs qs)

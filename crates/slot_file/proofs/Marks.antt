@@ -10,11 +10,7 @@ use native.Mathlib.Omega.{arith}
 use borrow.Author.Tests.{eqb-true, eqb-false}
 use Rattle.sums.specs.Choice.{if_then_else}
 use Rattle.slot_file.specs.Questions.{member}
-
--- the marks of the slots, and of slot 0
-abbrev pub marksOf : List ℕ → List Bool
-marksOf [] = set (replicate 1024 false) 0 true
-marksOf (k ∷ b) = set (marksOf b) k true
+use Rattle.slot_file.specs.Parts.{marksOf}
 
 pub marks-length : (b : List ℕ) → length (marksOf b) ≡ 1024
 marks-length [] = refl

@@ -22,6 +22,7 @@ use Rattle.slots.specs.declared.store.Store.the-variants.{Handling, Standing, A
 use Rattle.slot_file.specs.Sources.{VehicleGroup}
 use Rattle.slot_file.specs.Figures.{groupContributions, storeContributions, gathered, contributions, exactSum}
 use Rattle.slot_file.specs.Alike.{total}
+use Rattle.slot_file.specs.Parts.{partsTo}
 use Rattle.slot_file.proofs.Bag.{total-append}
 
 -- a contribution's tonnes and rate are whole numbers of exact units
@@ -79,10 +80,6 @@ module _ (ts : List ℤ) (gs : List VehicleGroup) (rs : List Store) where
   unfolding contributions
   total-contributions f =
       omega (arith, total-append f (gathered (groupContributions ts) gs) (gathered storeContributions rs), total-gathered f (groupContributions ts) gs, total-gathered f storeContributions rs)
-
--- the parts of 1 / k that a contribution gives to the code c
-unfoldable pub partsTo : (Contribution → Frac) → ℕ → ℕ → Contribution → ℕ
-partsTo f k c x = if_then_else (eqb (x .code) c) (partsOf k (f x)) 0
 
 module _ (f : Contribution → Frac) (k : ℕ) (pos : 0 < k) (exact : (x : Contribution) → Units x → f x ≈ (partsOf k (f x) over k)) (c : ℕ) where
   sum-parts : (xs : List Contribution) → Each Units xs → exactSum f c xs ≈ (total (partsTo f k c) xs over k)

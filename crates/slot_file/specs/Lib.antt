@@ -1,5 +1,5 @@
 -- What a slot file answers, by definition. A reader of 01 wants, in this order: Sources, Questions, Walk, Figures, Alike, Listing; Meaning says what a verdict
--- means in words that know no walk.
+-- means in words that know no walk. Parts has what the code's marks and sums hold.
 pub mod Sources
 pub mod Questions
 pub mod Walk
@@ -8,3 +8,4 @@ pub mod Figures
 pub mod Alike
 pub mod Listing
 pub mod Surveyed
+pub mod Parts

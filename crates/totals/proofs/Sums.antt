@@ -1,58 +1,41 @@
--- Totals of exact units: an emission adds the units of its contribution to the sums of its code, and the six of a group add theirs. By the place of the code
--- (`Places`), and since sums of mixed numbers are those of what they stand for. Assumes nothing.
+-- Totals of exact units: an emission adds the units of its contribution to the sums of its code, and the six of a group add theirs. Code by
+-- code, and since sums of mixed numbers are those of what they stand for. Assumes nothing.
 use Prim.Native.Nat.{ℕ, zero, suc, _+_, _<_, _≤_}
 use native.Mathlib.Omega.{arith}
-use mathlib.Core.Path.{_≡_, refl, sym, ap, _∙_}
+use mathlib.Core.Path.{_≡_, refl, ap, _∙_}
 use mathlib.Core.Bool.{Bool, true, false}
-use mathlib.Core.List.{List}
-use lib.Dec.{ltb, eqb, lit<}
-use lib.ListN.{getD, set, length}
-use borrow.Author.Tests.{ltb-false}
+use mathlib.Core.List.{List, [], _∷_, map}
+use lib.Dec.{eqb, lit<}
+use lib.ListN.{getD}
 use Rattle.sums.specs.Choice.{if_then_else, sumTo, listTo}
 use Rattle.sums.specs.Fraction.{partsOf}
 use Rattle.sums.specs.Figures.{annualDenominator, peakDenominator, tonneParts, gramParts, annualOf, annualParts, peakOf, peakParts}
 use Rattle.sums.specs.Answer.{Contribution, emitted, noEmission}
 use Rattle.sums.specs.declared.answer.Emission.{Emission}
 use Rattle.sums.specs.declared.mixed.Mixed.{Mixed}
-use Rattle.sums.proofs.Choices.{cases, listTo-at, listTo-same}
+use Rattle.sums.proofs.Choices.{listTo-at}
 use Rattle.sums.proofs.Wrapping.{mixed-plus}
 use Rattle.slot_file.specs.Figures.{codes}
 use Rattle.slot_file.specs.Alike.{total}
-use Rattle.slot_file.proofs.Units.{partsTo}
-use Rattle.totals.specs.Totals.{placeOf, totalsOf, plusEmission, plusTo}
+use Rattle.slot_file.specs.Parts.{partsTo, annualTo, peakTo}
+use Rattle.totals.specs.Totals.{addedTo, totalsOf, plusEmission, plusTo}
 use Rattle.totals.specs.declared.Totals.{Totals}
-use Rattle.totals.proofs.Places.{codes-distinct, changed, set-beyond}
-
-ten : {A : Type 0} (f : ℕ → A) → length (listTo 10 f) ≡ 10
-unfolding listTo
-ten f = refl
 
 pub same-totals : (a b p q : ℕ → ℕ) → ((c : ℕ) → a c ≡ b c) → ((c : ℕ) → p c ≡ q c) → totalsOf a p ≡ totalsOf b q
-same-totals a b p q h k =
-    let x = listTo-same 10 (λ (i : ℕ). annualOf (a (getD codes i 0))) (λ (i : ℕ). annualOf (b (getD codes i 0))) (λ (i : ℕ) (l : i < 10). ap annualOf (h (getD codes i 0))) in
-    let y = listTo-same 10 (λ (i : ℕ). peakOf (p (getD codes i 0))) (λ (i : ℕ). peakOf (q (getD codes i 0))) (λ (i : ℕ) (l : i < 10). ap peakOf (k (getD codes i 0))) in
-    λ i. record { annual = x i; peak = y i }
+same-totals a b p q h k = λ i. record { annual = map (λ (c : ℕ). annualOf (h c i)) codes; peak = map (λ (c : ℕ). peakOf (k c i)) codes }
 
--- y units are added at the place of the code c, of either kind of sum
+-- y units are added to the code c, of either kind of sum
 module _ {S : Type 0} (of : ℕ → S) (parts : S → ℕ) (adds : (a b : ℕ) → of (parts (of a) + parts (of b)) ≡ of (a + b)) (a : ℕ → ℕ) (c y : ℕ) where
-  abbrev sums : List S
-  sums = listTo 10 (λ (i : ℕ). of (a (getD codes i 0)))
-
-  abbrev more : S → S
-  more x = of (parts x + parts (of y))
-
-  one-place : (t : Bool) (k : ℕ) → if_then_else t (more (of (a k))) (of (a k)) ≡ of (a k + if_then_else t y 0)
+  one-code : (t : Bool) (k : ℕ) → if_then_else t (of (parts (of (a k)) + parts (of y))) (of (a k)) ≡ of (a k + if_then_else t y 0)
   unfolding if_then_else
-  one-place true k = adds (a k) y
-  one-place false k = ap of (omega arith)
+  one-code true k = adds (a k) y
+  one-code false k = ap of (omega arith)
 
-  added-at : set sums (placeOf codes c) (more (getD sums (placeOf codes c) (of 0))) ≡ listTo 10 (λ (i : ℕ). of (a (getD codes i 0) + if_then_else (eqb c (getD codes i 0)) y 0))
-  added-at =
-      changed (of 0) more c codes sums (ten (λ (i : ℕ). of (a (getD codes i 0)))) codes-distinct
-      ∙ listTo-same 10 _ _
-      (λ (i : ℕ) (h : i < 10).
-      ap (λ (x : S). if_then_else (eqb c (getD codes i 0)) (more x) x) (listTo-at (of 0) 10 (λ (i : ℕ). of (a (getD codes i 0))) i h)
-      ∙ one-place (eqb c (getD codes i 0)) (getD codes i 0))
+  added-to : (ks : List ℕ)
+      → addedTo (λ (x : S). of (parts x + parts (of y))) c ks (map (λ (k : ℕ). of (a k)) ks) ≡ map (λ (k : ℕ). of (a k + if_then_else (eqb c k) y 0)) ks
+  unfolding addedTo
+  added-to [] = refl
+  added-to (k ∷ ks) = λ i. one-code (eqb c k) k i ∷ added-to ks i
 
 annual-adds : (a b : ℕ) → annualOf (annualParts (annualOf a) + annualParts (annualOf b)) ≡ annualOf (a + b)
 annual-adds a b = ap (λ (m : Mixed). record { 0 = m }) (mixed-plus annualDenominator (lit< tt) a b)
@@ -60,28 +43,12 @@ annual-adds a b = ap (λ (m : Mixed). record { 0 = m }) (mixed-plus annualDenomi
 peak-adds : (a b : ℕ) → peakOf (peakParts (peakOf a) + peakParts (peakOf b)) ≡ peakOf (a + b)
 peak-adds a b = ap (λ (m : Mixed). record { 0 = m }) (mixed-plus peakDenominator (lit< tt) a b)
 
--- the units of a contribution to a code, of tonnes and of a rate
-abbrev pub annualTo : ℕ → Contribution → ℕ
-annualTo = partsTo (λ (x : Contribution). x .tonnes) tonneParts
-
-abbrev pub peakTo : ℕ → Contribution → ℕ
-peakTo = partsTo (λ (x : Contribution). x .rate) gramParts
-
 pub plus-emitted : (a p : ℕ → ℕ) (x : Contribution) → plusEmission (totalsOf a p) (emitted x) ≡ totalsOf (λ (c : ℕ). a c + annualTo c x) (λ (c : ℕ). p c + peakTo c x)
 unfolding plusEmission partsTo
 plus-emitted a p x =
-    let n = placeOf codes (x .code) in
-    let y = annualOf (annualParts (getD (totalsOf a p .annual) n (annualOf 0)) + annualParts (emitted x .annual)) in
-    let z = peakOf (peakParts (getD (totalsOf a p .peak) n (peakOf 0)) + peakParts (emitted x .peak)) in
-    let u = added-at annualOf annualParts annual-adds a (x .code) (partsOf tonneParts (x .tonnes)) in
-    let v = added-at peakOf peakParts peak-adds p (x .code) (partsOf gramParts (x .rate)) in
-    cases (λ r. r ≡ totalsOf (λ (c : ℕ). a c + annualTo c x) (λ (c : ℕ). p c + peakTo c x)) (ltb n 10)
-    (λ e i. record { annual = u i; peak = v i })
-    (λ e.
-    let h = ltb-false n 10 e in
-    let f = set-beyond (totalsOf a p .annual) n y (omega (arith, ten (λ (i : ℕ). annualOf (a (getD codes i 0))))) in
-    let g = set-beyond (totalsOf a p .peak) n z (omega (arith, ten (λ (i : ℕ). peakOf (p (getD codes i 0))))) in
-    sym (λ i. record { annual = f i; peak = g i }) ∙ (λ i. record { annual = u i; peak = v i }))
+    let u = added-to annualOf annualParts annual-adds a (x .code) (partsOf tonneParts (x .tonnes)) codes in
+    let v = added-to peakOf peakParts peak-adds p (x .code) (partsOf gramParts (x .rate)) codes in
+    λ i. record { annual = u i; peak = v i }
 
 -- the six emissions of a group
 module _ (a p : ℕ → ℕ) (x : ℕ → Contribution) where

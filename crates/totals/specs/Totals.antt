@@ -1,8 +1,9 @@
--- Exact sums by substance code. What has to be believed of a file's sums stands in slot_file's Figures; the proofs show that these are the same.
+-- 01, "Figures": the exact sums of the listing's codes, as the code holds them. "The exact sum of a code, annual or peak, adds ... what the rules above give that code
+-- from each source"; that a file's sums are those of slot_file's Figures is proved where a file is walked (`FileFigures` in walk).
 use Prim.Native.Nat.{ℕ, zero, suc, _+_, _%_, _^_}
-use mathlib.Core.List.{List, [], _∷_}
-use lib.Dec.{ltb, eqb}
-use lib.ListN.{getD, set, replicate}
+use mathlib.Core.List.{List, [], _∷_, map}
+use lib.Dec.{eqb}
+use lib.ListN.{getD, replicate}
 use Rattle.sums.specs.Choice.{if_then_else, listTo}
 use Rattle.sums.specs.Figures.{annualOf, annualParts, annualFigure, peakOf, peakParts, peakFigure}
 use Rattle.sums.specs.Answer.{noEmission}
@@ -13,42 +14,38 @@ use Rattle.slot_file.specs.Figures.{codes}
 use Rattle.totals.specs.declared.Totals.{Totals}
 use Rattle.totals.specs.declared.Figures.{Figures}
 
--- the place of c in a list, or the list's length
-unfoldable pub placeOf : List ℕ → ℕ → ℕ
-placeOf [] c = 0
-placeOf (x ∷ xs) c = if_then_else (eqb c x) 0 (suc (placeOf xs c))
-
-abbrev pub annualAt : Totals → ℕ → AnnualSum
-annualAt t i = getD (t .annual) i (annualOf 0)
-
-abbrev pub peakAt : Totals → ℕ → PeakSum
-peakAt t i = getD (t .peak) i (peakOf 0)
-
 abbrev pub noTotals : Totals
 noTotals = record { annual = replicate 10 (annualOf 0); peak = replicate 10 (peakOf 0) }
 
--- so many exact units of each code
-abbrev pub totalsOf : (ℕ → ℕ) → (ℕ → ℕ) → Totals
-totalsOf a p = record { annual = listTo 10 (λ (i : ℕ). annualOf (a (getD codes i 0))); peak = listTo 10 (λ (i : ℕ). peakOf (p (getD codes i 0))) }
+-- the sums of a list of codes, with more for the code c and the others as they are
+unfoldable pub addedTo : {S : Type 0} → (S → S) → ℕ → List ℕ → List S → List S
+addedTo more c [] xs = xs
+addedTo more c (k ∷ ks) [] = []
+addedTo more c (k ∷ ks) (x ∷ xs) = if_then_else (eqb c k) (more x) x ∷ addedTo more c ks xs
 
--- an emission adds to the sums of its code
+-- an emission adds to the sums of its code; a code that the listing does not have adds to none
 unfoldable pub plusEmission : Totals → Emission → Totals
-plusEmission t e =
-    if_then_else (ltb (placeOf codes (e .code)) 10)
-    (record {
-      annual = set (t .annual) (placeOf codes (e .code)) (annualOf (annualParts (annualAt t (placeOf codes (e .code))) + annualParts (e .annual)));
-      peak = set (t .peak) (placeOf codes (e .code)) (peakOf (peakParts (peakAt t (placeOf codes (e .code))) + peakParts (e .peak)));
-    })
-    t
+plusEmission t e = record {
+  annual = addedTo (λ (x : AnnualSum). annualOf (annualParts x + annualParts (e .annual))) (e .code) codes (t .annual);
+  peak = addedTo (λ (x : PeakSum). peakOf (peakParts x + peakParts (e .peak))) (e .code) codes (t .peak);
+}
 
 -- the first n of a list of emissions
 unfoldable pub plusTo : Totals → List Emission → ℕ → Totals
 plusTo t es zero = t
 plusTo t es (suc n) = plusEmission (plusTo t es n) (getD es n noEmission)
 
--- each sum's figure
+-- each sum's figure, of which it holds 64 bits
 unfoldable pub figuresOf : Totals → Figures
 figuresOf t = record {
-  annual = listTo 10 (λ (i : ℕ). annualFigure (annualAt t i) % 2 ^ 64);
-  peak = listTo 10 (λ (i : ℕ). peakFigure (peakAt t i) % 2 ^ 64);
+  annual = listTo 10 (λ (i : ℕ). annualFigure (getD (t .annual) i (annualOf 0)) % 2 ^ 64);
+  peak = listTo 10 (λ (i : ℕ). peakFigure (getD (t .peak) i (peakOf 0)) % 2 ^ 64);
 }
+
+-- What inner functions and proofs go by: the place of c in a list, or the list's length; and so many exact units of each code
+unfoldable pub placeOf : List ℕ → ℕ → ℕ
+placeOf [] c = 0
+placeOf (k ∷ ks) c = if_then_else (eqb c k) 0 (suc (placeOf ks c))
+
+abbrev pub totalsOf : (ℕ → ℕ) → (ℕ → ℕ) → Totals
+totalsOf a p = record { annual = map (λ (c : ℕ). annualOf (a c)) codes; peak = map (λ (c : ℕ). peakOf (p c)) codes }

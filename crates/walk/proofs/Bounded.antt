@@ -25,7 +25,7 @@ use Rattle.slot_file.specs.Questions.{groupAsks, storeAsks}
 use Rattle.slot_file.specs.Meaning.{Good}
 use Rattle.slot_file.specs.Figures.{groupContributions, storeContributions}
 use Rattle.slot_file.specs.Alike.{total}
-use Rattle.slot_file.proofs.Units.{partsTo}
+use Rattle.slot_file.specs.Parts.{partsTo}
 use Rattle.walk.specs.Walked.{unitsOf}
 use Rattle.walk.proofs.Ranged.{group-in-range, row-in-range, storeInRange, store-answered}
 

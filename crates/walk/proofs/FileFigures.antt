@@ -2,18 +2,14 @@
 -- Assumes nothing.
 use Prim.Native.Nat.{ℕ, _+_, _*_, _%_, _^_, _<_, _≤_}
 use native.Mathlib.Omega.{arith}
-use mathlib.Core.Path.{_≡_, refl, sym, ap, _∙_}
+use mathlib.Core.Path.{_≡_, sym, ap, _∙_}
 use mathlib.Core.List.{List, [], _∷_, map, reverse, reverseAux}
 use lib.Dec.{lit<}
-use lib.ListN.{getD}
 use Rattle.sums.specs.Choice.{listTo}
 use Rattle.sums.specs.Fraction.{Frac, _over_, whole, _⊙_, _≈_, partsOf}
 use Rattle.sums.specs.Figures as sum
 use Rattle.sums.specs.Figures.{annualDenominator, peakDenominator, partsIn, mixedOf, nearest, annualOf, peakOf}
 use Rattle.sums.specs.Answer.{Contribution}
-use Rattle.sums.specs.declared.annual.AnnualSum.{AnnualSum}
-use Rattle.sums.specs.declared.peak.PeakSum.{PeakSum}
-use Rattle.sums.proofs.Choices.{listTo-at, listTo-same}
 use Rattle.sums.proofs.Exact.{annualMost, peakMost, figure-exact}
 use Rattle.sums.proofs.Figure.{nearest-same}
 use Rattle.sums.proofs.Sources.{Bounded}
@@ -22,16 +18,12 @@ use Rattle.slot_file.specs.Sources.{VehicleGroup, groupAt, storeAt, groupsAt, s
 use Rattle.slot_file.specs.Meaning.{Accepts}
 use Rattle.slot_file.specs.Figures.{groupContributions, storeContributions, contributions, exactSum, annualFigure, peakFigure, codes}
 use Rattle.slot_file.specs.Alike.{total}
-use Rattle.slot_file.proofs.Units.{Units, total-contributions, partsTo, exact-parts}
+use Rattle.slot_file.proofs.Units.{Units, total-contributions, exact-parts}
+use Rattle.slot_file.specs.Parts.{partsTo, annualTo, peakTo}
 use Rattle.totals.specs.Totals.{figuresOf}
-use Rattle.totals.proofs.Sums.{annualTo, peakTo}
 use Rattle.walk.specs.Walked.{unitsOf, sumsOf}
 use Rattle.walk.proofs.Passing.{stores-short}
 use Rattle.walk.proofs.Bounded.{file-most}
-
-by-code : (f : ℕ → ℕ) → listTo 10 (λ (i : ℕ). f (getD codes i 0)) ≡ map f codes
-unfolding listTo
-by-code f = refl
 
 -- a total does not go by the order
 module _ {A B : Type 0} (f : B → ℕ) (h : A → B) where
@@ -86,15 +78,5 @@ module _ (s gs ss : List ℕ) where
       annual = map (annualFigure (contributions (temperaturesAt s) (groupsAt s gs) (storesAt s ss))) codes;
       peak = map (peakFigure (contributions (temperaturesAt s) (groupsAt s gs) (storesAt s ss))) codes;
     }
-    unfolding figuresOf
-    file-figures =
-        let xs = contributions (temperaturesAt s) (groupsAt s gs) (storesAt s ss) in
-        let u = listTo-same 10 _ (λ (i : ℕ). annualFigure xs (getD codes i 0))
-        (λ (i : ℕ) (h : i < 10).
-        ap (λ (m : AnnualSum). sum.annualFigure m % 2 ^ 64) (listTo-at (annualOf 0) 10 (λ (i : ℕ). annualOf (unitsOf (annualTo (getD codes i 0)) s gs ss)) i h)
-        ∙ annual-figured (getD codes i 0)) ∙ by-code (annualFigure xs) in
-        let v = listTo-same 10 _ (λ (i : ℕ). peakFigure xs (getD codes i 0))
-        (λ (i : ℕ) (h : i < 10).
-        ap (λ (m : PeakSum). sum.peakFigure m % 2 ^ 64) (listTo-at (peakOf 0) 10 (λ (i : ℕ). peakOf (unitsOf (peakTo (getD codes i 0)) s gs ss)) i h)
-        ∙ peak-figured (getD codes i 0)) ∙ by-code (peakFigure xs) in
-        λ i. record { annual = u i; peak = v i }
+    unfolding figuresOf listTo
+    file-figures = λ i. record { annual = map (λ (c : ℕ). annual-figured c i) codes; peak = map (λ (c : ℕ). peak-figured c i) codes }

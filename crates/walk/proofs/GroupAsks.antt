@@ -15,7 +15,7 @@ use Rattle.slots.specs.declared.group.GroupRead.{GroupRead}
 use Rattle.slot_file.specs.Sources.{groupAt}
 use Rattle.slot_file.specs.Questions.{Question, question, lastOf, linkAsks, rowsAsks, closingAsks, groupAsks, afterSixth}
 use Rattle.slot_file.specs.Meaning.{AllYes}
-use Rattle.slot_file.proofs.Marks.{marksOf}
+use Rattle.slot_file.specs.Parts.{marksOf}
 use Rattle.walk.specs.Told.{Told, LinkTold, SootTold}
 use Rattle.walk.proofs.Telling.{told-before, told-after}
 

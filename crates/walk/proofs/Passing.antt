@@ -22,11 +22,12 @@ use Rattle.slot_file.specs.Questions.{slotCount, headAsks, reachedBy, storeAsks
 use Rattle.slot_file.specs.Meaning.{AllYes, Groups, Stores}
 use Rattle.slot_file.specs.Figures.{groupContributions, storeContributions}
 use Rattle.slot_file.specs.Alike.{total}
-use Rattle.slot_file.proofs.Marks.{marksOf, different-short}
+use Rattle.slot_file.proofs.Marks.{different-short}
 use Rattle.slot_file.proofs.Verdicts.{sized, groups-differ, stores-differ}
+use Rattle.slot_file.specs.Parts.{marksOf, annualTo, peakTo}
 use Rattle.totals.specs.Totals.{noTotals, totalsOf, plusEmission, plusTo}
 use Rattle.totals.specs.declared.Totals.{Totals}
-use Rattle.totals.proofs.Sums.{annualTo, peakTo, same-totals, plus-emitted, plus-six}
+use Rattle.totals.proofs.Sums.{same-totals, plus-emitted, plus-six}
 use Rattle.walk.specs.Rows.{marksTo}
 use Rattle.walk.specs.Steps.{GroupStepped, StoreStepped}
 use Rattle.walk.specs.Walked.{unitsOf, sumsOf, plusGroup, GroupsPassed, GroupsEnded, recordEmission, storeEmission, plusStore, StoresPassed, StoresEnded}

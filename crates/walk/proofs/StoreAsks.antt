@@ -7,7 +7,7 @@ use Rattle.sums.specs.declared.answer.Verdict.{Verdict}
 use Rattle.slots.specs.Bytes.{slotOf}
 use Rattle.slots.specs.Layout.{readStore, readNumber}
 use Rattle.slot_file.specs.Questions.{lastOf, storeAsks}
-use Rattle.slot_file.proofs.Marks.{marksOf}
+use Rattle.slot_file.specs.Parts.{marksOf}
 use Rattle.walk.specs.Told.{Told, LinkTold}
 
 pub store-told : (s gs b : List ℕ) {k holder number : ℕ} {sources : List Bool} {v : Verdict} → LinkTold s sources holder k number v

@@ -8,7 +8,8 @@ use lib.ListN.{getD}
 use Rattle.sums.specs.declared.answer.Verdict.{Verdict}
 use Rattle.slot_file.specs.Questions.{Question, question, member, reachAsks}
 use Rattle.slot_file.specs.Meaning.{AllYes, FirstNo, here, later}
-use Rattle.slot_file.proofs.Marks.{marksOf, marks-member}
+use Rattle.slot_file.proofs.Marks.{marks-member}
+use Rattle.slot_file.specs.Parts.{marksOf}
 use Rattle.walk.specs.Told.{Told}
 
 pub told-no : {qs : List Question} {v : Verdict} (n k : ℕ) → v ≡ record { number = n; slot = k } → (n ≡ 0 → ⊥) → FirstNo qs n k → Told qs v

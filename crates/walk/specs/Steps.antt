@@ -8,7 +8,7 @@ use Rattle.slots.specs.Bytes.{slotOf}
 use Rattle.slots.specs.Layout.{nextOf, readStore}
 use Rattle.slot_file.specs.Sources.{groupAt}
 use Rattle.slot_file.specs.Questions.{lastOf, groupAsks, storeAsks}
-use Rattle.slot_file.proofs.Marks.{marksOf}
+use Rattle.slot_file.specs.Parts.{marksOf}
 use Rattle.walk.specs.Told.{Told}
 use Rattle.walk.specs.Rows.{marksTo}
 use Rattle.walk.specs.declared.groups.GroupStep.{GroupStep}

@@ -13,7 +13,7 @@ use Rattle.slots.specs.declared.coefficients.CoefficientsRead.{CoefficientsRead
 use Rattle.slot_file.specs.Sources.{coefficientSlot}
 use Rattle.slot_file.specs.Questions.{Question, question, slotCount, linkAsks, coefficientHolder, coefficientAsks, reachAsks}
 use Rattle.slot_file.specs.Meaning.{AllYes, FirstNo}
-use Rattle.slot_file.proofs.Marks.{marksOf}
+use Rattle.slot_file.specs.Parts.{marksOf}
 
 pub record Told (qs : List Question) (v : Verdict) : Type 0 where
   pub all : v .number ≡ 0 → AllYes qs

@@ -21,10 +21,9 @@ use Rattle.slot_file.specs.Questions.{headAsks, lastOf, reachedBy}
 use Rattle.slot_file.specs.Meaning.{AllYes, Groups, Stores, Accepts, Refuses}
 use Rattle.slot_file.specs.Figures.{groupContributions, storeContributions}
 use Rattle.slot_file.specs.Alike.{total}
-use Rattle.slot_file.proofs.Marks.{marksOf}
+use Rattle.slot_file.specs.Parts.{marksOf, annualTo, peakTo}
 use Rattle.totals.specs.Totals.{totalsOf, plusEmission, plusTo}
 use Rattle.totals.specs.declared.Totals.{Totals}
-use Rattle.totals.proofs.Sums.{annualTo, peakTo}
 use Rattle.walk.specs.declared.walked.Walked.{Walked}
 
 -- the units that the groups gs and the store records ss of a file have together

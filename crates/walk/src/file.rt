@@ -6,7 +6,7 @@ ghost use Rattle.slots.specs.Layout.{headerOf};
 ghost use Rattle.slot_file.specs.Walk.{verdict, told};
 ghost use Rattle.slot_file.specs.Figures.{refusal};
 ghost use Rattle.slot_file.specs.Figures as figures;
-ghost use Rattle.slot_file.proofs.Marks.{marksOf};
+ghost use Rattle.slot_file.specs.Parts.{marksOf};
 ghost use Rattle.walk.specs.Walked.{FileWalked};
 use super::groups;
 use super::questions;

@@ -7,7 +7,7 @@ use mathlib.Core.Path.{_≡_}
 use mathlib.Core.List.{List}
 use Rattle.slot_file.specs.Questions.{reachAsks}
 use Rattle.slot_file.specs.Meaning.{here}
-use Rattle.slot_file.proofs.Marks.{marksOf}
+use Rattle.slot_file.specs.Parts.{marksOf}
 use Rattle.walk.proofs.Telling.{told-no, told-yes, marked, Rest, rest-on, reach-turn}
 use Rattle.walk.proofs.questions.ask_reached.Statement.{statement}
 use Rattle.walk.proofs.questions.ask_reached.Tie as tie

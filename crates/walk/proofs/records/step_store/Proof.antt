@@ -7,7 +7,7 @@ use mathlib.Core.List.{List, _++_}
 use Rattle.slots.specs.Layout.{nextOf, readStore, readNumber}
 use Rattle.slots.specs.declared.store.StoreRead.{StoreRead}
 use Rattle.slot_file.specs.Questions.{lastOf, storeAsks}
-use Rattle.slot_file.proofs.Marks.{marksOf}
+use Rattle.slot_file.specs.Parts.{marksOf}
 use Rattle.walk.specs.Told.{Told}
 use Rattle.walk.proofs.StoreAsks.{store-told}
 use Rattle.walk.proofs.records.step_store.Statement.{statement}
