@@ -51,6 +51,10 @@ held {l} {a = a} {r} h g =
 pub copied : {m a x : List ℕ} {r : ℕ} (buffer : List ℕ) → Held m r a → x ≡ take (length (take r m)) (take r m) ++ drop (length (take r m)) buffer → x ≡ a ++ drop (length a) buffer
 copied {a = a} buffer h e = rw (h .bytes, take-length a) at e
 
+-- what stands at the start is no longer than the whole
+pub fronted : {n : ℕ} (p d : List ℕ) {l : List ℕ} → n ≡ length p → l ≡ p ++ d → (n ≤ length l) × (n ≡ length (take n l))
+fronted {n} p d e f = (omega (arith, e, ap length f, length-append p d), e ∙ sym (ap length (ap (take n) f ∙ take-at p d n (omega arith))))
+
 -- n with the rest from k on is l with the whole from i on: what holds at each turn of a loop that writes
 pub record Due (l : List ℕ) (i : ℕ) (whole n : List ℕ) (k : ℕ) (rest : List ℕ) : Type 0 where
   pub same : sets n k rest ≡ sets l i whole

@@ -5,7 +5,8 @@ mod text;
 
 ghost use mathlib.Core.Path.{_≡_};
 ghost use mathlib.Core.List.{_++_};
-ghost use lib.ListN.{length, drop};
+ghost use lib.ListN.{length, take, drop};
+ghost use Prim.Native.Nat.{_≤_};
 ghost use Rattle.slot_file.specs.Figures.{refusal, answer};
 ghost use Rattle.slot_file.specs.Listing.{printed, listed};
 use slot_file::Answer;
@@ -69,9 +70,10 @@ pub fn list(file: &[u8], buffer: &mut [u8]) -> Listing
     list_answer(walk::answer(file), buffer)
 }
 
-// What the program prints of a file: its listing, or its refusal line.
+// What the program prints of a file: its listing, or its refusal line. The second promise follows from the first; whoever writes the bytes out wants it.
 pub fn print(file: &[u8], out: &mut [u8; 640]) -> usize
     ensures { λ r. ⌜ (r ≡ length (printed (answer (now (file .entry))))) × (now (out .exit) ≡ printed (answer (now (file .entry))) ++ drop r (now (out .entry))) ⌝ }
+    ensures { λ r. ⌜ (r ≤ length (now (out .exit))) × (r ≡ length (take r (now (out .exit)))) ⌝ }
 {
     print_answer(walk::answer(file), out)
 }
