@@ -7,6 +7,8 @@
 // is afterwards. A case that is cut off ends the run.
 //
 // tests/file_cases.py writes the cases, and works out what must be printed.
+ghost use Prim.Native.Nat.{_<_};
+
 fn number(n: u64) {
     io::write_all(1, b" ");
     io::print_decimal(1, n);
@@ -16,16 +18,10 @@ fn line_end() {
     io::write_all(1, b"\n");
 }
 
-fn front(s: &[u8], n: usize) {
-    if n <= s.len() {
-        io::write_all(1, &s[0..n]);
-    }
-}
-
 fn show(file: &[u8]) {
     let mut out = [0; 640];
     let length = listing::print(file, &mut out);
-    front(&out, length);
+    io::write_all(1, &out[..length]);
 }
 
 fn lend(file: &[u8], buffer: &mut [u8]) {
@@ -68,7 +64,9 @@ fn next_file(room: &mut [u8], n: usize, buffer: usize) -> bool {
     false
 }
 
-fn wide(b: u8) -> usize {
+fn wide(b: u8) -> usize
+    ensures { λ r. ⌜ r < 256 ⌝ }
+{
     b as usize
 }
 
@@ -81,7 +79,11 @@ fn next_case() -> bool {
     let low = wide(head[0]) + 256 * wide(head[1]);
     let high = wide(head[2]) + 256 * wide(head[3]);
     let mut room = [0; 65_600];
-    next_file(&mut room, low + 65_536 * high, wide(head[4]) + 256 * wide(head[5]))
+    next_file(
+        &mut room,
+        low + 65_536 * high,
+        wide(head[4]) + 256 * wide(head[5]),
+    )
 }
 
 // Nothing says that the input ends, so the turns are counted down, from a number that no run uses
