@@ -3,15 +3,11 @@ use Prim.Native.Nat.{ℕ, zero, suc}
 use mathlib.Core.Path.{_≡_}
 use mathlib.Core.Bool.{Bool, true}
 use mathlib.Core.List.{List, [], _∷_, _++_}
-use lib.ListN.{set, replicate}
-use Rattle.vehicles.specs.declared.group.Coefficients.{Coefficients}
+use lib.ListN.{set}
 use Rattle.slot_file.specs.Sources.{coefficientSlot, groupAt}
 use Rattle.slot_file.specs.Questions.{afterSixth, rowsAsks}
 use Rattle.walk.specs.Told.{Told}
 use Rattle.walk.specs.declared.rows.Rows.{Rows}
-
-abbrev pub noRow : Coefficients
-noRow = record { warmup = replicate 3 (record { 0 = 0 }); run = replicate 3 (record { 0 = 0 }); idle = record { 0 = 0 } }
 
 -- the marks with the first n coefficient slots of g
 unfoldable pub marksTo : List ℕ → ℕ → List Bool → ℕ → List Bool

@@ -4,7 +4,7 @@ ghost use Prim.Native.Nat.{_≤_};
 ghost use lib.ListN.{length};
 ghost use Rattle.slots.specs.Bytes.{slotOf};
 ghost use Rattle.slots.specs.Layout.{groupRead, coefficientsRead};
-ghost use Rattle.walk.specs.Rows.{noRow, RowsRead};
+ghost use Rattle.walk.specs.Rows.{RowsRead};
 use super::questions;
 use slots::CoefficientsRead;
 use sums::Verdict;
@@ -24,9 +24,7 @@ fn slot_index(link: u16) -> usize
     link as usize
 }
 
-fn no_row() -> Coefficients
-    ensures { λ r. ⌜ r ≡ noRow ⌝ }
-{
+fn no_row() -> Coefficients {
     Coefficients {
         warmup: [PerMinute(0); 3],
         run: [PerKilometre(0); 3],
