@@ -1,7 +1,7 @@
 // A coefficient slot.
 ghost use mathlib.Core.Path.{_≡_};
 ghost use Rattle.slots.specs.Layout.{coefficientsOf, coefficientsGood, coefficientsRead};
-use super::bytes;
+use super::numbers;
 use vehicles::Coefficients;
 use vehicles::PerKilometre;
 use vehicles::PerMinute;
@@ -18,26 +18,26 @@ fn coefficients_of(t: &[u8; 64]) -> Coefficients
     ensures { λ r. ⌜ r ≡ coefficientsOf (now (t .entry)) ⌝ }
 {
     let warmup = [
-        PerMinute(bytes::u32_at(t, 4)),
-        PerMinute(bytes::u32_at(t, 8)),
-        PerMinute(bytes::u32_at(t, 12)),
+        PerMinute(numbers::u32_at(t, 4)),
+        PerMinute(numbers::u32_at(t, 8)),
+        PerMinute(numbers::u32_at(t, 12)),
     ];
     let run = [
-        PerKilometre(bytes::u32_at(t, 16)),
-        PerKilometre(bytes::u32_at(t, 20)),
-        PerKilometre(bytes::u32_at(t, 24)),
+        PerKilometre(numbers::u32_at(t, 16)),
+        PerKilometre(numbers::u32_at(t, 20)),
+        PerKilometre(numbers::u32_at(t, 24)),
     ];
     Coefficients {
         warmup,
         run,
-        idle: PerMinute(bytes::u32_at(t, 28)),
+        idle: PerMinute(numbers::u32_at(t, 28)),
     }
 }
 
 fn coefficients_good(t: &[u8; 64], k: Coefficients) -> bool
     ensures { λ r. ⌜ r ≡ coefficientsGood (now (t .entry)) k ⌝ }
 {
-    vehicles::coefficients_in_range(k) & bytes::zero_from(t, 32, 32)
+    vehicles::coefficients_in_range(k) & numbers::zero_from(t, 32, 32)
 }
 
 pub fn read_coefficients(t: &[u8; 64]) -> CoefficientsRead
@@ -45,9 +45,9 @@ pub fn read_coefficients(t: &[u8; 64]) -> CoefficientsRead
 {
     let k = coefficients_of(t);
     CoefficientsRead {
-        number: bytes::number_of(t[2] == 2, coefficients_good(t, k)),
+        number: numbers::number_of(t[2] == 2, coefficients_good(t, k)),
         pollutant: t[3],
         coefficients: k,
-        next: bytes::u16_at(t, 0),
+        next: numbers::u16_at(t, 0),
     }
 }

@@ -2,7 +2,7 @@
 ghost use mathlib.Core.Path.{_≡_};
 ghost use Prim.Native.Nat.{_≤_};
 ghost use Rattle.slots.specs.Layout.{daysOf, distancesAt, groupOf, groupGood, groupRead};
-use super::bytes;
+use super::numbers;
 use vehicles::Distances;
 use vehicles::Group;
 use vehicles::Metres;
@@ -41,8 +41,8 @@ fn distances_at(t: &[u8; 64], at: usize) -> Distances
     ensures { λ r. ⌜ r ≡ distancesAt (now (t .entry)) at ⌝ }
 {
     Distances {
-        nearest: Metres(bytes::u16_at(t, at) as u32),
-        farthest: Metres(bytes::u16_at(t, at + 2) as u32),
+        nearest: Metres(numbers::u16_at(t, at) as u32),
+        farthest: Metres(numbers::u16_at(t, at + 2) as u32),
     }
 }
 
@@ -54,14 +54,14 @@ fn group_of(t: &[u8; 64]) -> Group
         fuel: t[4],
         controlled: t[5] % 2 == 1,
         heated: t[5] / 2 % 2 == 1,
-        vehicles: bytes::u16_at(t, 6),
-        leaving: bytes::u16_at(t, 8),
+        vehicles: numbers::u16_at(t, 6),
+        leaving: numbers::u16_at(t, 8),
         share: t[10],
         neutraliser: Neutraliser {
             running: t[11],
             warming: t[12],
         },
-        idle: Minutes(bytes::long(t[13])),
+        idle: Minutes(numbers::long(t[13])),
         outward: distances_at(t, 14),
         inward: distances_at(t, 18),
         days: days_of(t),
@@ -71,7 +71,7 @@ fn group_of(t: &[u8; 64]) -> Group
 fn group_good(t: &[u8; 64], g: Group) -> bool
     ensures { λ r. ⌜ r ≡ groupGood (now (t .entry)) g ⌝ }
 {
-    vehicles::group_in_range(g) & (t[5] <= 3) & bytes::zero_from(t, 36, 28)
+    vehicles::group_in_range(g) & (t[5] <= 3) & numbers::zero_from(t, 36, 28)
 }
 
 pub fn read_group(t: &[u8; 64]) -> GroupRead
@@ -79,9 +79,9 @@ pub fn read_group(t: &[u8; 64]) -> GroupRead
 {
     let group = group_of(t);
     GroupRead {
-        number: bytes::number_of(t[2] == 1, group_good(t, group)),
+        number: numbers::number_of(t[2] == 1, group_good(t, group)),
         group,
-        next: bytes::u16_at(t, 0),
-        first: bytes::u16_at(t, 34),
+        next: numbers::u16_at(t, 0),
+        first: numbers::u16_at(t, 34),
     }
 }

@@ -1,7 +1,7 @@
 // Slot 0.
 ghost use mathlib.Core.Path.{_≡_};
 ghost use Rattle.slots.specs.Layout.{temperaturesOf, headerOf};
-use super::bytes;
+use super::numbers;
 
 // The format number, the count of slots, the first group and store record, the temperatures, and whether the other bytes are zero.
 pub struct Header {
@@ -17,18 +17,18 @@ fn temperatures_of(t: &[u8; 64]) -> [i16; 12]
     ensures { λ r. ⌜ r ≡ temperaturesOf (now (t .entry)) ⌝ }
 {
     [
-        bytes::i16_at(t, 8),
-        bytes::i16_at(t, 10),
-        bytes::i16_at(t, 12),
-        bytes::i16_at(t, 14),
-        bytes::i16_at(t, 16),
-        bytes::i16_at(t, 18),
-        bytes::i16_at(t, 20),
-        bytes::i16_at(t, 22),
-        bytes::i16_at(t, 24),
-        bytes::i16_at(t, 26),
-        bytes::i16_at(t, 28),
-        bytes::i16_at(t, 30),
+        numbers::i16_at(t, 8),
+        numbers::i16_at(t, 10),
+        numbers::i16_at(t, 12),
+        numbers::i16_at(t, 14),
+        numbers::i16_at(t, 16),
+        numbers::i16_at(t, 18),
+        numbers::i16_at(t, 20),
+        numbers::i16_at(t, 22),
+        numbers::i16_at(t, 24),
+        numbers::i16_at(t, 26),
+        numbers::i16_at(t, 28),
+        numbers::i16_at(t, 30),
     ]
 }
 
@@ -36,11 +36,11 @@ pub fn read_header(t: &[u8; 64]) -> Header
     ensures { λ r. ⌜ r ≡ headerOf (now (t .entry)) ⌝ }
 {
     Header {
-        format: bytes::u16_at(t, 0),
-        count: bytes::u16_at(t, 2),
-        groups: bytes::u16_at(t, 4),
-        stores: bytes::u16_at(t, 6),
+        format: numbers::u16_at(t, 0),
+        count: numbers::u16_at(t, 2),
+        groups: numbers::u16_at(t, 4),
+        stores: numbers::u16_at(t, 6),
         temperatures: temperatures_of(t),
-        rest: bytes::zero_from(t, 32, 32),
+        rest: numbers::zero_from(t, 32, 32),
     }
 }

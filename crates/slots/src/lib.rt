@@ -1,8 +1,8 @@
 // What the slots of a slot file hold: slot 0, groups, coefficients and store records, read from 64 bytes each.
-mod bytes;
 pub mod coefficients;
 pub mod group;
 pub mod header;
+mod numbers;
 pub mod slot;
 pub mod store;
 

@@ -4,7 +4,7 @@ ghost use Prim.Native.Nat.{_+_, _≤_};
 ghost use lib.ListN.{length};
 ghost use Rattle.slots.specs.Bytes.{bytesFrom, slotOf};
 ghost use Rattle.slots.specs.Layout.{nextOf};
-use super::bytes;
+use super::numbers;
 
 fn bytes_from(file: &[u8], base: usize) -> [u8; 64]
     requires { ⌜ base + 64 ≤ length (now file) ⌝ }
@@ -34,5 +34,5 @@ pub fn slot_at(file: &[u8], n: usize) -> [u8; 64]
 pub fn next_of(t: &[u8; 64]) -> u16
     ensures { λ r. ⌜ r ≡ nextOf (now (t .entry)) ⌝ }
 {
-    bytes::u16_at(t, 0)
+    numbers::u16_at(t, 0)
 }

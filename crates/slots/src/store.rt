@@ -2,7 +2,7 @@
 ghost use mathlib.Core.Path.{_≡_};
 ghost use Rattle.slots.specs.Layout.{bulkOf, handlingOf, handlingGood, standingOf, standingGood, aspirationOf, aspirationGood, readBy, StoreReads};
 ghost use Rattle.slots.specs.declared.store.Store.the-variants as variants;
-use super::bytes;
+use super::numbers;
 use stores::Aspiration;
 use stores::Bulk;
 use stores::Handling;
@@ -26,13 +26,13 @@ fn bulk_of(t: &[u8; 64]) -> Bulk
 {
     Bulk {
         dust: t[3],
-        store: bytes::u16_at(t, 4),
+        store: numbers::u16_at(t, 4),
         material: t[6],
-        wind: bytes::u16_at(t, 8),
-        moisture: bytes::u16_at(t, 10),
-        grain: bytes::u16_at(t, 12),
+        wind: numbers::u16_at(t, 8),
+        moisture: numbers::u16_at(t, 10),
+        grain: numbers::u16_at(t, 12),
         openness: t[14],
-        amount: bytes::u32_at(t, 20),
+        amount: numbers::u32_at(t, 20),
     }
 }
 
@@ -50,8 +50,8 @@ fn handling_good(t: &[u8; 64], h: Handling) -> bool
 {
     stores::handling_in_range(h)
         & (t[7] == 0)
-        & bytes::zero_from(t, 16, 4)
-        & bytes::zero_from(t, 24, 40)
+        & numbers::zero_from(t, 16, 4)
+        & numbers::zero_from(t, 24, 40)
 }
 
 fn read_handling(t: &[u8; 64]) -> StoreRead
@@ -70,7 +70,7 @@ fn standing_of(t: &[u8; 64]) -> Standing
 {
     Standing {
         bulk: bulk_of(t),
-        k6: bytes::u16_at(t, 16),
+        k6: numbers::u16_at(t, 16),
     }
 }
 
@@ -80,8 +80,8 @@ fn standing_good(t: &[u8; 64], s: Standing) -> bool
     stores::standing_in_range(s)
         & (t[7] == 0)
         & (t[15] == 0)
-        & bytes::zero_from(t, 18, 2)
-        & bytes::zero_from(t, 24, 40)
+        & numbers::zero_from(t, 18, 2)
+        & numbers::zero_from(t, 24, 40)
 }
 
 fn read_standing(t: &[u8; 64]) -> StoreRead
@@ -100,18 +100,18 @@ fn aspiration_of(t: &[u8; 64]) -> Aspiration
 {
     Aspiration {
         dust: t[3],
-        store: bytes::u16_at(t, 4),
-        concentration: bytes::u32_at(t, 8),
-        flow: bytes::u32_at(t, 12),
-        capture: bytes::u16_at(t, 16),
-        hours: bytes::u16_at(t, 18),
+        store: numbers::u16_at(t, 4),
+        concentration: numbers::u32_at(t, 8),
+        flow: numbers::u32_at(t, 12),
+        capture: numbers::u16_at(t, 16),
+        hours: numbers::u16_at(t, 18),
     }
 }
 
 fn aspiration_good(t: &[u8; 64], a: Aspiration) -> bool
     ensures { λ r. ⌜ r ≡ aspirationGood (now (t .entry)) a ⌝ }
 {
-    stores::aspiration_in_range(a) & bytes::zero_from(t, 6, 2) & bytes::zero_from(t, 20, 44)
+    stores::aspiration_in_range(a) & numbers::zero_from(t, 6, 2) & numbers::zero_from(t, 20, 44)
 }
 
 fn read_aspiration(t: &[u8; 64]) -> StoreRead

@@ -2,8 +2,8 @@
 use mathlib.Core.Path.{refl}
 use Rattle.sums.proofs.Choices.{yes, no}
 use Rattle.slots.specs.Bytes.{numberOf}
-use Rattle.slots.proofs.bytes.number_of.Statement.{statement}
-use Rattle.slots.proofs.bytes.number_of.Tie as tie
+use Rattle.slots.proofs.numbers.number_of.Statement.{statement}
+use Rattle.slots.proofs.numbers.number_of.Tie as tie
 
 pub number-of-spec : {M : Type 1} → statement M
 unfolding numberOf

@@ -4,8 +4,8 @@ use mathlib.Core.Path.{_∙_, ap}
 use mir.Facts.{toZ-ofZ}
 use Rattle.slots.specs.Bytes.{signed, i16At}
 use Rattle.slots.proofs.Signed.{low, high, high-fits}
-use Rattle.slots.proofs.bytes.i16_at.Statement.{statement}
-use Rattle.slots.proofs.bytes.i16_at.Tie as tie
+use Rattle.slots.proofs.numbers.i16_at.Statement.{statement}
+use Rattle.slots.proofs.numbers.i16_at.Tie as tie
 
 returns-2 : tie.Need-returns-2
 unfolding i16At

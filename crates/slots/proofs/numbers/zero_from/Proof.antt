@@ -5,8 +5,8 @@ use mathlib.Core.Path.{_≡_}
 use Prim.Native.Nat.{_≤_, _-_}
 use native.Mathlib.Numerals.{add-one}
 use Rattle.slots.specs.Bytes.{zeroFrom}
-use Rattle.slots.proofs.bytes.zero_from.Statement.{statement}
-use Rattle.slots.proofs.bytes.zero_from.Tie as tie
+use Rattle.slots.proofs.numbers.zero_from.Statement.{statement}
+use Rattle.slots.proofs.numbers.zero_from.Tie as tie
 
 abbrev Inv-loop : tie.InvT-loop
 Inv-loop t from n zero₀ i₀ zero i = (i ≤ n) × (zero ≡ zeroFrom t from i)
