@@ -28,6 +28,7 @@ import files
 import inventory
 import papers
 import slot_file
+import tikhvin
 from cases import Dice
 from files import ACCEPTED, FileCase
 
@@ -64,8 +65,14 @@ def lent():
     return found
 
 
+def textbook():
+    """The worked example of document 003 (tikhvin.py)."""
+    return [FileCase("car park in Tikhvin", tikhvin.inventory(tikhvin.PARK, tikhvin.ROAD), ACCEPTED)]
+
+
 def all_files():
-    return file_edges.edge_files() + file_mixes.mixed_files() + lent() + file_mixes.full()
+    edges = file_edges.edge_files()
+    return edges + textbook() + file_mixes.mixed_files() + lent() + file_mixes.full()
 
 
 # The program's input and output
