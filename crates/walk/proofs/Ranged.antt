@@ -24,18 +24,12 @@ use Rattle.slot_file.specs.Meaning.{AllYes}
 use Rattle.walk.proofs.Telling.{all-left, all-right}
 use Rattle.walk.proofs.SixRows.{row-yes}
 
--- a read that is refused neither 8 nor 9 is good
-good-read : (kind good : Bool) → not (eqb (numberOf kind good) 8) ≡ true → not (eqb (numberOf kind good) 9) ≡ true → good ≡ true
+-- a read that is refused neither 8 nor 9 is good, and has the number 0
+passed-read : (kind good : Bool) → not (eqb (numberOf kind good) 8) ≡ true → not (eqb (numberOf kind good) 9) ≡ true → (good ≡ true) × (numberOf kind good ≡ 0)
 unfolding numberOf if_then_else
-good-read true true p q = refl
-good-read true false p q = q
-good-read false good p q = absurd (subst T (sym p) tt)
-
-zero-read : (kind good : Bool) → not (eqb (numberOf kind good) 8) ≡ true → not (eqb (numberOf kind good) 9) ≡ true → numberOf kind good ≡ 0
-unfolding numberOf if_then_else
-zero-read true true p q = refl
-zero-read true false p q = absurd (subst T (sym q) tt)
-zero-read false good p q = absurd (subst T (sym p) tt)
+passed-read true true p q = (refl, refl)
+passed-read true false p q = absurd (subst T (sym q) tt)
+passed-read false good p q = absurd (subst T (sym p) tt)
 
 module _ (s b : List ℕ) (g : ℕ) (a : AllYes (groupAsks s b g)) where
   pub group-in-range : groupInRange (groupAt s g .group) ≡ true
@@ -43,7 +37,7 @@ module _ (s b : List ℕ) (g : ℕ) (a : AllYes (groupAsks s b g)) where
   group-in-range =
       let t = slotOf s g in
       nth (groupInRange (groupOf t) ∷ leb (byteAt t 5) 3 ∷ zeroFrom t 36 28 ∷ [])
-      (good-read (eqb (byteAt t 2) 1) (groupGood t (groupOf t)) (a .1 .1 .0) (a .1 .1 .1 .0)) 0
+      (passed-read (eqb (byteAt t 2) 1) (groupGood t (groupOf t)) (a .1 .1 .0) (a .1 .1 .1 .0) .0) 0
 
   pub row-in-range : (p : ℕ) → p < 6 → coefficientsInRange (getD (groupAt s g .coefficients) p noCoefficients) ≡ true
   unfolding groupAsks linkAsks coefficientAsks groupAt coefficientsRead coefficientsGood
@@ -52,7 +46,7 @@ module _ (s b : List ℕ) (g : ℕ) (a : AllYes (groupAsks s b g)) where
       let r = row-yes s g 6 p h (all-left (rowsAsks s g 6) (closingAsks s g) (a .1 .1 .1 .1)) in
       rw (listTo-at noCoefficients 6 (λ (n : ℕ). coefficientsOf (slotOf s (coefficientSlot s g n))) p h)
       (nth (coefficientsInRange (coefficientsOf t) ∷ zeroFrom t 32 32 ∷ [])
-      (good-read (eqb (byteAt t 2) 2) (coefficientsGood t (coefficientsOf t)) (r .1 .1 .0) (r .1 .1 .1 .0)) 0)
+      (passed-read (eqb (byteAt t 2) 2) (coefficientsGood t (coefficientsOf t)) (r .1 .1 .0) (r .1 .1 .1 .0) .0) 0)
 
   rows-in-range : allInRange (groupAt s g .coefficients) ≡ true
   unfolding allInRange
@@ -92,6 +86,5 @@ unfolding storeAsks linkAsks storeAt
 store-answered s gs b k a =
     let t = slotOf s k in
     let n = with-number t (readStore t) refl .1 in
-    let p = rw n at (a .1 .1 .0) in
-    let q = rw n at (a .1 .1 .1 .0) in
-    (read-record t (n ∙ zero-read (storeKind t) (storeGood t) p q), good-store t (good-read (storeKind t) (storeGood t) p q))
+    let p = passed-read (storeKind t) (storeGood t) (rw n at (a .1 .1 .0)) (rw n at (a .1 .1 .1 .0)) in
+    (read-record t (n ∙ p .1), good-store t (p .0))
