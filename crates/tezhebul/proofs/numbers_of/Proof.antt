@@ -1,0 +1,12 @@
+-- The numbers, as they stand.
+use borrow.Author.Needs.{needs}
+use mathlib.Core.Path.{refl}
+use Rattle.sums.specs.Choice.{listTo}
+use Rattle.tezhebul.proofs.numbers_of.Statement.{statement}
+use Rattle.tezhebul.proofs.numbers_of.Tie as tie
+
+pub numbers-of-spec : {M : Type 1} → statement M
+unfolding listTo
+numbers-of-spec =
+    tie.close
+    (tie.spec (search needs) (search needs) (search needs) (search needs) (search needs) (search needs) (search needs) (search needs) (search needs) (search needs) (search needs) (search needs) (search needs) (search needs) (search needs) (search needs) (search needs) (search needs) (search needs) (search needs) (search needs) (search needs) (search needs) (search needs) (λ c. refl))

@@ -1,0 +1,12 @@
+-- The check's number and slot in one.
+use borrow.Author.Needs.{needs}
+use mathlib.Core.Path.{ap}
+use Rattle.sums.specs.declared.answer.Verdict.{Verdict}
+use Rattle.tezhebul.specs.Numbers.{packed}
+use Rattle.tezhebul.proofs.tezhebul_check.Statement.{statement}
+use Rattle.tezhebul.proofs.tezhebul_check.Tie as tie
+
+pub tezhebul-check-spec : {M : Type 1} → statement M
+tezhebul-check-spec =
+    tie.close
+    (tie.spec (search needs) (search needs) (search needs) (search needs) (search needs) (λ c. ap (λ (v : Verdict). packed v) (c .before .before .check .ensures)))

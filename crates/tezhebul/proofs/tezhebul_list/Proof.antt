@@ -1,0 +1,20 @@
+-- The listing, and the numbers of what it answers.
+use borrow.Author.Needs.{needs}
+use mathlib.Core.Path.{ap, _∙_}
+use Rattle.slot_file.specs.Listing.{Listed}
+use Rattle.tezhebul.specs.Numbers.{numbersOf, into}
+use Rattle.tezhebul.proofs.tezhebul_list.Statement.{statement}
+use Rattle.tezhebul.proofs.tezhebul_list.Tie as tie
+
+returns : tie.Need-returns
+returns c =
+    let b = c .before .before .before .before .before .before .before in
+    let out = b .before .before .before .before .before .args .out .now in
+    let e = b .list .ensures in (
+      ap (λ (l : Listed). l .length) e,
+      ap (λ (l : Listed). l .buffer) e,
+      c .before .before .give .ensures .1 ∙ ap (λ (l : Listed). into (numbersOf (l .answer)) out) e,
+    )
+
+pub tezhebul-list-spec : {M : Type 1} → statement M
+tezhebul-list-spec = tie.close (tie.spec (search needs) (search needs) (search needs) (search needs) returns)

@@ -1,0 +1,21 @@
+-- An answer as numbers, for a caller that has no structs of ours.
+use Prim.Native.Nat.{ℕ, _+_, _*_}
+use mathlib.Core.List.{List, _∷_, _++_}
+use lib.Dec.{leb}
+use lib.ListN.{getD, length, drop}
+use Rattle.sums.specs.Choice.{if_then_else, listTo}
+use Rattle.sums.specs.declared.answer.Verdict.{Verdict}
+use Rattle.slot_file.specs.declared.Answer.{Answer}
+
+-- a number and a slot in one
+abbrev pub packed : Verdict → ℕ
+packed v = 65536 * v .number + v .slot
+
+-- number, slot, groups, store records, the ten annual figures, the ten peak figures
+abbrev pub numbersOf : Answer → List ℕ
+numbersOf a =
+    a .number ∷ a .slot ∷ a .groups ∷ a .stores ∷ (listTo 10 (λ (i : ℕ). getD (a .annual) i 0) ++ listTo 10 (λ (i : ℕ). getD (a .peak) i 0))
+
+-- the numbers at the start of a buffer, where they fit, and nothing else changed
+unfoldable pub into : List ℕ → List ℕ → List ℕ
+into l buffer = if_then_else (leb (length l) (length buffer)) (l ++ drop (length l) buffer) buffer
