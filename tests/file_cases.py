@@ -8,9 +8,10 @@ slot_file.py.
 
 The input is one record after another: 4 bytes, the length n of the file; 2 bytes, a number b; the n
 bytes of the file. Numbers are little-endian. Where b is 65,535 the program prints what the program
-inventory prints for this file. Otherwise it lends a buffer of b bytes, each a tilde, and prints
-`listed`, number, slot and length, parted by spaces, and a line feed; then the b bytes of the buffer
-as they are after the call, and a line feed. After the last record it prints nothing more.
+inventory prints for this file. Otherwise it checks the file and prints `checked`, number and slot,
+parted by spaces, and a line feed; lends a buffer of b bytes, each a tilde, and prints `listed`,
+number, slot and length in the same way; then the b bytes of the buffer as they are after the call,
+and a line feed. After the last record it prints nothing more.
 """
 import sys
 
@@ -87,8 +88,10 @@ def record(case):
 def output(case):
     if case.lent is None:
         return slot_file.printed(case.data)
+    a = slot_file.answer(case.data)
     number, slot, length, buffer = slot_file.listed(case.data, b"~" * case.lent)
-    return f"listed {number} {slot} {length}\n".encode("ascii") + buffer + b"\n"
+    lines = f"checked {a.number} {a.slot}\nlisted {number} {slot} {length}\n"
+    return lines.encode("ascii") + buffer + b"\n"
 
 
 # What 01 prints of its surveyed examples

@@ -41,8 +41,12 @@ def one_group(g):
     return heads + b"".join(rows)
 
 
+def example():
+    return one_group(cases.surveyed_group())
+
+
 def main():
-    data = one_group(cases.surveyed_group())
+    data = example()
     printed = slot_file.printed(data)
     assert printed == LISTING, "the listing is not the one that 01 prints"
     sys.stdout.buffer.write({"stdin": data, "stdout": printed}[sys.argv[1]])

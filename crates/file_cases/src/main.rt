@@ -2,9 +2,10 @@
 //
 // A case is 4 bytes with the length of a file, 2 bytes with the length of a buffer, both
 // little-endian, and the file. Where the buffer's length is 65,535 it prints what the program
-// `inventory` would. Else it lends a buffer of so many bytes, each of them `~`, to a listing, and
-// prints `listed`, the number, the slot and the length, and on a line of its own the buffer as it
-// is afterwards. A case that is cut off ends the run.
+// `inventory` would. Else it checks the file and prints `checked`, the number and the slot; lends
+// a buffer of so many bytes, each of them `~`, to a listing, and prints `listed`, the number, the
+// slot and the length, and on a line of its own the buffer as it is afterwards. A case that is cut
+// off ends the run.
 //
 // tests/file_cases.py writes the cases, and works out what must be printed.
 ghost use Prim.Native.Nat.{_<_};
@@ -22,6 +23,14 @@ fn show(file: &[u8]) {
     let mut out = [0; 640];
     let length = listing::print(file, &mut out);
     io::write_all(1, &out[..length]);
+}
+
+fn check(file: &[u8]) {
+    let verdict = walk::check(file);
+    io::write_all(1, b"checked");
+    number(verdict.number as u64);
+    number(verdict.slot as u64);
+    line_end();
 }
 
 fn lend(file: &[u8], buffer: &mut [u8]) {
@@ -48,6 +57,7 @@ fn answer(file: &[u8], buffer: usize) {
     if buffer == 65_535 {
         show(file);
     } else {
+        check(file);
         lend_front(file, buffer);
     }
 }

@@ -1,10 +1,12 @@
 // Prints the listing of the inventory file on standard input, or its refusal line.
 
-// Prints the listing of a file, or its refusal line.
+// Prints the listing of a file, or its refusal line. Where it can't be written whole, standard error says so.
 fn show(file: &[u8]) {
     let mut out = [0; 640];
     let length = listing::print(file, &mut out);
-    io::write_all(1, &out[..length]);
+    if !io::write_all(1, &out[..length]) {
+        os::fail(b"inventory: standard output");
+    }
 }
 
 // The room has one byte more than the longest inventory file: a longer input shows by it, and is refused by its length with the rest unread. After the last byte a
@@ -16,6 +18,7 @@ fn main() {
     if n == 65_537 || libc::read(0, &mut spare) == 0 {
         show(&room[..n]);
     } else {
+        os::fail(b"inventory: standard input");
         show(&spare[..0]);
     }
 }

@@ -7,7 +7,7 @@ ghost use mathlib.Core.Path.{_≡_};
 ghost use mathlib.Core.List.{_++_};
 ghost use lib.ListN.{length, take, drop};
 ghost use Prim.Native.Nat.{_≤_};
-ghost use Rattle.slot_file.specs.Figures.{refusal, answer};
+ghost use Rattle.slot_file.specs.Figures.{answer};
 ghost use Rattle.slot_file.specs.Listing.{printed, listed};
 use slot_file::Answer;
 
@@ -31,26 +31,12 @@ fn list_answer(a: Answer, buffer: &mut [u8]) -> Listing
     let length = lines::put_listing(&mut text, a);
     if buffer.len() < length {
         return Listing {
-            answer: refused(13),
+            answer: Answer::refusal(13, 0),
             length: 0,
         };
     }
     bytes::copy(&text[..length], buffer);
     Listing { answer: a, length }
-}
-
-// A refusal at no slot: every figure and count zero.
-fn refused(number: u8) -> Answer
-    ensures { λ r. ⌜ r ≡ refusal number 0 ⌝ }
-{
-    Answer {
-        number,
-        slot: 0,
-        annual: [0; 10],
-        peak: [0; 10],
-        groups: 0,
-        stores: 0,
-    }
 }
 
 // What the program prints: the listing, or the refusal line.

@@ -18,7 +18,7 @@ use Rattle.sums.proofs.Wrapping.{mixed-plus}
 use Rattle.slot_file.specs.Figures.{codes}
 use Rattle.slot_file.specs.Alike.{total}
 use Rattle.slot_file.specs.Parts.{partsTo, annualTo, peakTo}
-use Rattle.totals.specs.Totals.{addedTo, totalsOf, plusEmission, plusTo}
+use Rattle.totals.specs.Totals.{moreFor, totalsOf, plusEmission, plusTo}
 use Rattle.totals.specs.declared.Totals.{Totals}
 
 pub same-totals : (a b p q : ℕ → ℕ) → ((c : ℕ) → a c ≡ b c) → ((c : ℕ) → p c ≡ q c) → totalsOf a p ≡ totalsOf b q
@@ -32,8 +32,8 @@ module _ {S : Type 0} (of : ℕ → S) (parts : S → ℕ) (adds : (a b : ℕ) �
   one-code false k = ap of (omega arith)
 
   added-to : (ks : List ℕ)
-      → addedTo (λ (x : S). of (parts x + parts (of y))) c ks (map (λ (k : ℕ). of (a k)) ks) ≡ map (λ (k : ℕ). of (a k + if_then_else (eqb c k) y 0)) ks
-  unfolding addedTo
+      → moreFor (λ (x : S). of (parts x + parts (of y))) c ks (map (λ (k : ℕ). of (a k)) ks) ≡ map (λ (k : ℕ). of (a k + if_then_else (eqb c k) y 0)) ks
+  unfolding moreFor
   added-to [] = refl
   added-to (k ∷ ks) = λ i. one-code (eqb c k) k i ∷ added-to ks i
 

@@ -18,16 +18,16 @@ abbrev pub noTotals : Totals
 noTotals = record { annual = replicate 10 (annualOf 0); peak = replicate 10 (peakOf 0) }
 
 -- the sums of a list of codes, with more for the code c and the others as they are
-unfoldable pub addedTo : {S : Type 0} → (S → S) → ℕ → List ℕ → List S → List S
-addedTo more c [] xs = xs
-addedTo more c (k ∷ ks) [] = []
-addedTo more c (k ∷ ks) (x ∷ xs) = if_then_else (eqb c k) (more x) x ∷ addedTo more c ks xs
+unfoldable pub moreFor : {S : Type 0} → (S → S) → ℕ → List ℕ → List S → List S
+moreFor more c [] xs = xs
+moreFor more c (k ∷ ks) [] = []
+moreFor more c (k ∷ ks) (x ∷ xs) = if_then_else (eqb c k) (more x) x ∷ moreFor more c ks xs
 
 -- an emission adds to the sums of its code; a code that the listing does not have adds to none
 unfoldable pub plusEmission : Totals → Emission → Totals
 plusEmission t e = record {
-  annual = addedTo (λ (x : AnnualSum). annualOf (annualParts x + annualParts (e .annual))) (e .code) codes (t .annual);
-  peak = addedTo (λ (x : PeakSum). peakOf (peakParts x + peakParts (e .peak))) (e .code) codes (t .peak);
+  annual = moreFor (λ (x : AnnualSum). annualOf (annualParts x + annualParts (e .annual))) (e .code) codes (t .annual);
+  peak = moreFor (λ (x : PeakSum). peakOf (peakParts x + peakParts (e .peak))) (e .code) codes (t .peak);
 }
 
 -- the first n of a list of emissions

@@ -4,7 +4,6 @@ ghost use mathlib.Core.List.{[]};
 ghost use Rattle.slots.specs.Bytes.{slotOf};
 ghost use Rattle.slots.specs.Layout.{headerOf};
 ghost use Rattle.slot_file.specs.Walk.{verdict, told};
-ghost use Rattle.slot_file.specs.Figures.{refusal};
 ghost use Rattle.slot_file.specs.Figures as figures;
 ghost use Rattle.slot_file.specs.Parts.{marksOf};
 ghost use Rattle.walk.specs.Walked.{FileWalked};
@@ -80,20 +79,6 @@ pub fn check(file: &[u8]) -> Verdict
     questions::accept()
 }
 
-// "A refusal gives its number and a slot, with every figure and count zero."
-fn refused(v: Verdict) -> Answer
-    ensures { λ r. ⌜ r ≡ refusal (v .number) (v .slot) ⌝ }
-{
-    Answer {
-        number: v.number,
-        slot: v.slot,
-        annual: [0; 10],
-        peak: [0; 10],
-        groups: 0,
-        stores: 0,
-    }
-}
-
 // The figures and the counts of an accepted file, or its refusal.
 pub fn answer(file: &[u8]) -> Answer
     ensures { λ r. ⌜ r ≡ figures.answer (now (file .entry)) ⌝ }
@@ -101,7 +86,7 @@ pub fn answer(file: &[u8]) -> Answer
     let walked = walk_file(file, true);
     let verdict = walked.verdict;
     if verdict.number != 0 {
-        return refused(verdict);
+        return Answer::refusal(verdict.number, verdict.slot);
     }
     let totals = walked.totals;
     let figures = totals.figures();

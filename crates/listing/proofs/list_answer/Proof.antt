@@ -20,7 +20,7 @@ unfolding listed if_then_else
 returns-2 c =
     let p = c .before .before in
     let h = held (p .put-listing .ensures .0) (search needs) in
-    simp (eq-eqb _ _ (p .before .before .if1 .left), lt-leb _ _ (rw (h .long) at (c .before .if2 .taken))) (rw (c .refused .ensures))
+    simp (eq-eqb _ _ (p .before .before .if1 .left), lt-leb _ _ (rw (h .long) at (c .before .if2 .taken))) (rw (c .refusal .ensures))
 
 returns-3 : tie.Need-returns-3
 unfolding listed if_then_else

@@ -19,7 +19,7 @@ returns c =
     let w = c .before .before .before .before in
     let v = w .walk-file .result .verdict in
     let s = w .before .before .args .file .now in
-    c .refused .ensures ∙ sym (refused-answer s (v .number) (v .slot) (only s (refused (v .number) (v .slot)) (w .walk-file .ensures .refused (c .before .if1 .taken))) .0)
+    c .refusal .ensures ∙ sym (refused-answer s (v .number) (v .slot) (only s (refused (v .number) (v .slot)) (w .walk-file .ensures .refused (c .before .if1 .taken))) .0)
 
 returns-2 : tie.Need-returns-2
 unfolding summed groupsAt storesAt
