@@ -144,9 +144,11 @@ fn far_link(random: &mut Random, layout: &mut Layout) -> bool {
         return false;
     };
     let count = (layout.file.len() / SLOT) as u32;
-    let far = match random.below(4) {
+    let far = match random.below(5) {
         0 | 1 => count,
         2 => count + 1,
+        // past any file by one bit
+        3 => u32::from(read2(&layout.file, at)) | 1 << (10 + random.below(6)),
         _ => random.within(count, 65_535),
     };
     write(&mut layout.file, at, 2, far);
@@ -231,7 +233,10 @@ fn unnamed_byte(random: &mut Random, layout: &mut Layout) -> bool {
     };
     let slot = layout.slot(place);
     let bytes: Vec<usize> = unnamed(slot[2]).collect();
-    slot[random.pick(&bytes)] = nonzero_byte(random);
+    // those between fields, and next to the last one, more often
+    let most = if random.once_in(2) { 6 } else { bytes.len() };
+    let at = random.pick(&bytes[..most]);
+    slot[at] = nonzero_byte(random);
     true
 }
 

@@ -4,6 +4,7 @@
 
 #![forbid(unsafe_code)]
 
+mod codes;
 mod listing;
 mod slots;
 mod stores;
@@ -11,6 +12,7 @@ mod sums;
 mod vehicles;
 mod walk;
 
+pub use codes::CODES;
 pub use listing::LONGEST;
 pub use stores::{aspiration, handling, standing, Aspiration, Handling, Standing};
 pub use sums::{Emission, ANNUAL_DENOMINATOR, PEAK_DENOMINATOR};
@@ -18,11 +20,6 @@ pub use vehicles::{group, Coefficients, Group, Temperatures};
 
 use sums::Sums;
 use walk::{walk, Counts, Source};
-
-/// The substance codes, in the order of the listing.
-pub const CODES: [&str; 10] = [
-    "0152", "0184", "0301", "0328", "0330", "0337", "2704", "2754", "2908", "2909",
-];
 
 /// The question that is answered no, and its slot.
 #[derive(Clone, Copy, Debug, PartialEq, Eq)]

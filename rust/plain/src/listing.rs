@@ -1,6 +1,7 @@
 //! The listing and the refusal line (01, "Figures").
 
-use crate::{Answer, Refusal, CODES};
+use crate::codes::CODES;
+use crate::{Answer, Refusal};
 
 const HEADING: &[u8] = b"code t/year g/s\n";
 

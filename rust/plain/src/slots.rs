@@ -69,10 +69,12 @@ pub fn next(slot: &Slot) -> u16 {
     number2(slot, 0)
 }
 
+/// Byte 2: 1 group, 2 coefficients, 3 handling, 4 standing, 5 aspiration.
 pub fn kind(slot: &Slot) -> u8 {
     slot[2]
 }
 
+/// Coefficients, "3 pollutant"
 pub fn pollutant(slot: &Slot) -> u8 {
     slot[3]
 }
@@ -82,6 +84,7 @@ pub fn first_coefficients(slot: &Slot) -> u16 {
     number2(slot, 34)
 }
 
+/// "Group (byte 2 = 1): 3 category", and on to "22..33 days worked per month".
 pub fn group(slot: &Slot) -> Group {
     Group {
         category: byte(slot, 3),
@@ -103,6 +106,7 @@ pub fn group_rest_zero(slot: &Slot) -> bool {
     zero(&slot[36..])
 }
 
+/// "Then from 4 seven 4-byte numbers": warm-up in three periods, run in three, idle.
 pub fn coefficients(slot: &Slot) -> Coefficients {
     Coefficients {
         warm_up: std::array::from_fn(|period| number4(slot, 4 + 4 * period)),
@@ -111,7 +115,7 @@ pub fn coefficients(slot: &Slot) -> Coefficients {
     }
 }
 
-/// A store record with a kind of 3 to 5, or none.
+/// "Store record (byte 2 = 3 handling, 4 standing, 5 aspiration)", or none for another kind.
 pub fn store(slot: &Slot) -> Option<Store> {
     match kind(slot) {
         3 => Some(Store::Handling(handling(slot))),
@@ -121,6 +125,7 @@ pub fn store(slot: &Slot) -> Option<Store> {
     }
 }
 
+/// "Handling and standing: 6 material" and on, "Handling only: 15 drop class".
 fn handling(slot: &Slot) -> Handling {
     Handling {
         dust: byte(slot, 3),
@@ -135,6 +140,7 @@ fn handling(slot: &Slot) -> Handling {
     }
 }
 
+/// The same, with "Standing only: 16..17 K6".
 fn standing(slot: &Slot) -> Standing {
     Standing {
         dust: byte(slot, 3),
@@ -149,6 +155,7 @@ fn standing(slot: &Slot) -> Standing {
     }
 }
 
+/// "Aspiration: 8..11 dust C", "12..15 gas V", "16..17 capture", "18..19 hours".
 fn aspiration(slot: &Slot) -> Aspiration {
     Aspiration {
         dust: byte(slot, 3),

@@ -1,5 +1,6 @@
 //! The rules of store records (01, "Store rules").
 
+use crate::codes;
 use crate::sums::Emission;
 use crate::Refusal;
 
@@ -87,7 +88,7 @@ pub fn aspiration(record: &Aspiration) -> Result<Emission, Refusal> {
     }
 }
 
-/// (K1, K2, Q) of materials 1 to 9: K1 and K2 in hundredths, Q in thousandths.
+/// "Materials 1 to 9 (K1, K2, Q)": K1 and K2 in hundredths, Q in thousandths.
 const MATERIALS: [(u64, u64, u64); 9] = [
     (3, 1, 3), // limestone
     (4, 1, 5), // lump lime
@@ -100,10 +101,10 @@ const MATERIALS: [(u64, u64, u64); 9] = [
     (4, 1, 5), // sandstone
 ];
 
-/// K4 of openness 1 to 7, in thousandths.
+/// "K4, openness 1 to 7", in thousandths.
 const K4: [u64; 7] = [1000, 500, 300, 200, 100, 10, 5];
 
-/// B' of drop classes 1 to 8, in tenths.
+/// "B', drops of .5, 1, 1.5, 2, 4, 6, 8, 10 m (classes 1 to 8)", in tenths.
 const DROPS: [u64; 8] = [1, 5, 6, 7, 10, 15, 20, 25];
 
 /// K3, in tenths, of a wind in range: "wind to 2, 5, 7, 10, 12, 14 m/s".
@@ -147,16 +148,16 @@ fn k7(grain: u32) -> u64 {
     }
 }
 
-/// The dust code's place in `CODES`: 1 is 0152, 2 is 2908, 3 is 2909.
+/// The place in `CODES` of a dust code in range: "1 for 0152, 2 for 2908, 3 for 2909".
 fn dust_code(dust: u32) -> usize {
     match dust {
-        1 => 0,
-        2 => 8,
-        _ => 9,
+        1 => codes::DUST_0152,
+        2 => codes::DUST_2908,
+        _ => codes::DUST_2909,
     }
 }
 
-/// The ranges that all three kinds share: dust code and store number.
+/// "3 dust code, 1 for 0152, 2 for 2908, 3 for 2909. 4..5 store number, 1 or more."
 fn name_in_range(dust: u32, store: u32) -> bool {
     (1..=3).contains(&dust) && (1..=65_535).contains(&store)
 }
@@ -167,6 +168,7 @@ fn constant_annual(peak: u128) -> u128 {
 }
 
 impl Handling {
+    /// "Handling and standing: 6 material, 1 to 9" and on, "Handling only: 15 drop class, 1 to 8."
     pub(crate) fn in_range(&self) -> bool {
         name_in_range(self.dust, self.store)
             && (1..=9).contains(&self.material)
@@ -200,6 +202,7 @@ impl Handling {
 }
 
 impl Standing {
+    /// The same, with "Standing only: 16..17 K6 in hundredths, 100 to 200, or 0 for missing".
     pub(crate) fn in_range(&self) -> bool {
         name_in_range(self.dust, self.store)
             && (1..=9).contains(&self.material)
@@ -234,6 +237,7 @@ impl Standing {
 }
 
 impl Aspiration {
+    /// "Aspiration: 8..11 dust C, 0 to 1,000,000 mg/m³" and on.
     pub(crate) fn in_range(&self) -> bool {
         name_in_range(self.dust, self.store)
             && self.concentration <= 1_000_000

@@ -1,6 +1,7 @@
 //! Exact sums and their figures (01, "Figures").
 
-use crate::{Answer, CODES};
+use crate::codes::CODES;
+use crate::Answer;
 
 /// Exact units in a tonne: every annual term of the rules is a whole number of them.
 pub const ANNUAL_DENOMINATOR: u128 = 200_000_000_000_000_000;

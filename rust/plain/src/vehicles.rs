@@ -1,5 +1,6 @@
 //! The rule of vehicle groups (01, "Vehicle rules").
 
+use crate::codes;
 use crate::sums::Emission;
 use crate::Refusal;
 
@@ -66,6 +67,7 @@ pub fn group(
     Ok(group.emissions(temperatures, coefficients))
 }
 
+/// Places among the pollutants "1 CO, 2 hydrocarbons, 3 NO2, 4 soot, 5 SO2, 6 lead".
 const SOOT: usize = 3;
 const LEAD: usize = 5;
 
@@ -114,9 +116,19 @@ fn control_factors(fuel: u32) -> [u64; 6] {
 
 /// The pollutants' places in `CODES`. "Hydrocarbons count as 2704 for petrol and 2754 for diesel
 /// (house rule). CO is 0337, NO2 0301, soot 0328, SO2 0330, lead 0184."
-fn codes(fuel: u32) -> [usize; 6] {
-    let hydrocarbons = if fuel == 1 { 6 } else { 7 };
-    [5, hydrocarbons, 2, 3, 4, 1]
+fn pollutant_codes(fuel: u32) -> [usize; 6] {
+    let hydrocarbons = match fuel {
+        1 => codes::PETROL_HYDROCARBONS,
+        _ => codes::DIESEL_HYDROCARBONS,
+    };
+    [
+        codes::CO,
+        hydrocarbons,
+        codes::NO2,
+        codes::SOOT,
+        codes::SO2,
+        codes::LEAD,
+    ]
 }
 
 impl Coefficients {
@@ -129,6 +141,7 @@ impl Coefficients {
 }
 
 impl Group {
+    /// "3 category, 1 car, 2 truck, 3 bus" and on, to the days worked per month.
     pub(crate) fn in_range(&self) -> bool {
         (1..=3).contains(&self.category)
             && (1..=2).contains(&self.fuel)
@@ -149,10 +162,12 @@ impl Group {
         coefficients[pollutant] != Coefficients::default()
     }
 
+    /// "bit 0 emission control done"
     fn controlled(&self) -> bool {
         self.flags & 1 != 0
     }
 
+    /// "bit 1 heated stand"
     fn heated(&self) -> bool {
         self.flags & 2 != 0
     }
@@ -225,7 +240,7 @@ impl Group {
         let year = self.year(temperatures, coefficients, &control);
         let lowest = temperatures.iter().copied().min().unwrap_or_default();
         let (period, minutes) = self.warm_up(lowest);
-        let codes = codes(self.fuel);
+        let codes = pollutant_codes(self.fuel);
         std::array::from_fn(|p| {
             let (out, _) = self.out_and_in(&coefficients[p], period, minutes, control[p]);
             Emission {

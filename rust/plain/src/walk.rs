@@ -92,6 +92,8 @@ impl<'a> Walk<'a> {
         Ok(slot)
     }
 
+    /// "At each nonzero link 6, 7, 8 and 9 are asked. After a group's own 9 come its six coefficient
+    /// links", "then 11 for the group".
     fn groups(
         &mut self,
         temperatures: &Temperatures,
@@ -151,6 +153,7 @@ impl<'a> Walk<'a> {
         Ok(read)
     }
 
+    /// "At each nonzero link 6, 7, 8 and 9 are asked."
     fn stores(&mut self, take: &mut impl FnMut(Source)) -> Result<u16, Refusal> {
         let mut count = 0;
         let mut holder = 0;
@@ -171,7 +174,7 @@ impl<'a> Walk<'a> {
         Ok(count)
     }
 
-    /// "Is each slot from 1 up reached?"
+    /// "Is each slot from 1 up reached?", if not, "the lowest unreached".
     fn all_reached(&self) -> Result<(), Refusal> {
         let reached = &self.reached[..self.slots.len()];
         match (1..).zip(&reached[1..]).find(|(_, &reached)| !reached) {
