@@ -1,0 +1,169 @@
+//! Laying an inventory out in a file: places of slots, order of chains, shared coefficient slots.
+
+use crate::fields::{write, Slot, SLOT};
+use crate::random::Random;
+use crate::sources::{Inventory, MOST_SLOTS};
+
+/// A file, and which slots of it are what.
+pub struct Layout {
+    pub file: Vec<u8>,
+    pub groups: Vec<u16>,
+    pub coefficients: Vec<u16>,
+    pub stores: Vec<u16>,
+}
+
+/// A coefficient slot on the way to a file: its row, and the next one's place in the list.
+struct Node {
+    row: Slot,
+    next: Option<usize>,
+}
+
+/// The coefficient slots of a file, and where each chain starts: one for each group.
+struct Chains {
+    nodes: Vec<Node>,
+    starts: Vec<usize>,
+}
+
+/// Lays the inventory out in one of many ways.
+pub fn lay_out(random: &mut Random, inventory: &Inventory) -> Layout {
+    let mut groups: Vec<usize> = (0..inventory.groups.len()).collect();
+    let mut stores: Vec<usize> = (0..inventory.stores.len()).collect();
+    if !random.once_in(4) {
+        random.shuffle(&mut groups);
+        random.shuffle(&mut stores);
+    }
+    let chains = chains(random, inventory, &groups);
+    let count = 1 + groups.len() + stores.len() + chains.nodes.len();
+    let mut places: Vec<u16> = (1..count as u16).collect();
+    if !random.once_in(4) {
+        random.shuffle(&mut places);
+    }
+    let (group_places, rest) = places.split_at(groups.len());
+    let (store_places, coefficient_places) = rest.split_at(stores.len());
+    let mut layout = Layout {
+        file: vec![0; count * SLOT],
+        groups: group_places.to_vec(),
+        coefficients: coefficient_places.to_vec(),
+        stores: store_places.to_vec(),
+    };
+    layout.write_head(inventory);
+    layout.write_chains(&chains);
+    for (place, &group) in groups.iter().enumerate() {
+        layout.write_group(place, &inventory.groups[group].slot, chains.starts[place]);
+    }
+    for (place, &store) in stores.iter().enumerate() {
+        layout.write_store(place, &inventory.stores[store]);
+    }
+    layout
+}
+
+/// Groups with the same rows share all slots of them, some, or none, as far as there is room.
+fn chains(random: &mut Random, inventory: &Inventory, groups: &[usize]) -> Chains {
+    let share = random.below(3);
+    let mut spare = MOST_SLOTS - inventory.least_slots();
+    let mut made: Vec<Option<usize>> = vec![None; inventory.rows.len()];
+    let mut chains = Chains {
+        nodes: Vec::new(),
+        starts: Vec::new(),
+    };
+    for &group in groups {
+        let rows = inventory.groups[group].rows;
+        let again = share > 0 && (share > 1 || random.once_in(2));
+        let start = match made[rows] {
+            Some(start) if again || spare < 6 => start,
+            earlier => {
+                if earlier.is_some() {
+                    spare -= 6;
+                }
+                chains.add(random, &inventory.rows[rows], again)
+            }
+        };
+        made[rows] = Some(start);
+        chains.starts.push(start);
+    }
+    chains
+}
+
+impl Chains {
+    /// A new chain; with `share` its end may be that of an earlier one, where the rows are equal.
+    fn add(&mut self, random: &mut Random, rows: &[Slot; 6], share: bool) -> usize {
+        let mut next = None;
+        let mut own = 6;
+        if share && !self.starts.is_empty() {
+            let earlier = self.nodes_from(random.pick(&self.starts));
+            let most = random.below(6);
+            while 6 - own < most && self.nodes[earlier[own - 1]].row == rows[own - 1] {
+                own -= 1;
+                next = Some(earlier[own]);
+            }
+        }
+        for &row in rows[..own].iter().rev() {
+            self.nodes.push(Node { row, next });
+            next = Some(self.nodes.len() - 1);
+        }
+        self.nodes.len() - 1
+    }
+
+    fn nodes_from(&self, start: usize) -> [usize; 6] {
+        let mut node = start;
+        std::array::from_fn(|_| {
+            let this = node;
+            node = self.nodes[this].next.unwrap_or(this);
+            this
+        })
+    }
+}
+
+/// The place that a chain's link has, or zero for its end.
+fn link(places: &[u16], index: usize) -> u32 {
+    places.get(index).copied().map_or(0, u32::from)
+}
+
+impl Layout {
+    pub fn slot(&mut self, place: u16) -> &mut [u8] {
+        let start = usize::from(place) * SLOT;
+        &mut self.file[start..start + SLOT]
+    }
+
+    /// Writes the count of slots that the file has.
+    pub fn write_count(&mut self) {
+        let count = (self.file.len() / SLOT) as u32;
+        write(&mut self.file, 2, 2, count);
+    }
+
+    fn write_head(&mut self, inventory: &Inventory) {
+        self.write_count();
+        let first_group = link(&self.groups, 0);
+        let first_store = link(&self.stores, 0);
+        let head = self.slot(0);
+        write(head, 0, 2, 1);
+        write(head, 4, 2, first_group);
+        write(head, 6, 2, first_store);
+        head[8..32].copy_from_slice(&inventory.temperatures);
+    }
+
+    fn write_chains(&mut self, chains: &Chains) {
+        for (index, node) in chains.nodes.iter().enumerate() {
+            let next = node.next.map_or(0, |next| link(&self.coefficients, next));
+            let slot = self.slot(self.coefficients[index]);
+            slot.copy_from_slice(&node.row);
+            write(slot, 0, 2, next);
+        }
+    }
+
+    fn write_group(&mut self, index: usize, group: &Slot, start: usize) {
+        let next = link(&self.groups, index + 1);
+        let first = link(&self.coefficients, start);
+        let slot = self.slot(self.groups[index]);
+        slot.copy_from_slice(group);
+        write(slot, 0, 2, next);
+        write(slot, 34, 2, first);
+    }
+
+    fn write_store(&mut self, index: usize, store: &Slot) {
+        let next = link(&self.stores, index + 1);
+        let slot = self.slot(self.stores[index]);
+        slot.copy_from_slice(store);
+        write(slot, 0, 2, next);
+    }
+}

@@ -1,0 +1,85 @@
+//! The check, the answer and the listing of a slot file.
+
+use crate::ffi::{self, NUMBERS};
+
+/// The question that is answered no, and its slot.
+#[derive(Clone, Copy, Debug, PartialEq, Eq)]
+pub struct Refusal {
+    pub number: u8,
+    pub slot: u16,
+}
+
+/// Counts and figures of an accepted file, by the codes 0152 0184 0301 0328 0330 0337 2704 2754
+/// 2908 2909.
+#[derive(Clone, Copy, Debug, PartialEq, Eq)]
+pub struct Answer {
+    pub groups: u16,
+    pub stores: u16,
+    /// Millionths of a tonne.
+    pub annual: [u64; 10],
+    /// Ten-millionths of a gram per second.
+    pub peak: [u64; 10],
+}
+
+/// Whether the file is accepted.
+pub fn check(file: &[u8]) -> Result<(), Refusal> {
+    match ffi::check(file) {
+        0 => Ok(()),
+        word => Err(refusal(u64::from(word >> 16), u64::from(word & 0xffff))),
+    }
+}
+
+/// The figures and counts of the file.
+pub fn answer(file: &[u8]) -> Result<Answer, Refusal> {
+    let mut numbers = [0; NUMBERS];
+    let written = ffi::answer(file, &mut numbers);
+    assert!(written, "there is room for every number");
+    read(&numbers)
+}
+
+/// Writes the listing to the start of the buffer and returns its length; a refusal, 13 included,
+/// changes no byte of it.
+pub fn list(file: &[u8], buffer: &mut [u8]) -> Result<usize, Refusal> {
+    list_and_answer(file, buffer).map(|(length, _)| length)
+}
+
+/// The same, with the answer that is listed.
+pub fn list_and_answer(file: &[u8], buffer: &mut [u8]) -> Result<(usize, Answer), Refusal> {
+    let mut numbers = [0; NUMBERS];
+    let length = ffi::list(file, buffer, &mut numbers);
+    assert!(length <= buffer.len(), "the listing is in the buffer");
+    let listed = read(&numbers);
+    assert_eq!(length == 0, listed.is_err(), "only a refusal has length 0");
+    listed.map(|answer| (length, answer))
+}
+
+/// The numbers in the order of the header.
+fn read(numbers: &[u64; NUMBERS]) -> Result<Answer, Refusal> {
+    let [number, slot, groups, stores, figures @ ..] = numbers;
+    if *number != 0 {
+        assert!(
+            numbers[2..].iter().all(|&n| n == 0),
+            "a refusal has every figure and count zero"
+        );
+        return Err(refusal(*number, *slot));
+    }
+    assert_eq!(*slot, 0, "an accepted file has slot 0");
+    Ok(Answer {
+        groups: count(*groups),
+        stores: count(*stores),
+        annual: std::array::from_fn(|code| figures[code]),
+        peak: std::array::from_fn(|code| figures[10 + code]),
+    })
+}
+
+fn refusal(number: u64, slot: u64) -> Refusal {
+    assert!((1..=13).contains(&number), "a refusal is numbered 1 to 13");
+    Refusal {
+        number: number as u8,
+        slot: u16::try_from(slot).expect("a slot is below 65,536"),
+    }
+}
+
+fn count(number: u64) -> u16 {
+    u16::try_from(number).expect("a count is below 65,536")
+}
