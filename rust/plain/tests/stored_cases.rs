@@ -17,14 +17,18 @@ fn record(input: &[u8]) -> (&[u8], u16, &[u8]) {
     (file, u16::from_le_bytes([head[4], head[5]]), rest)
 }
 
-/// `listed`, number, slot and length; then the lent buffer of tildes as it is after the call.
+/// `checked`, number and slot; `listed`, number, slot and length; then the lent buffer of tildes as
+/// it is after the call.
 fn listed(file: &[u8], length: u16) -> Vec<u8> {
+    let check = plain::check(file).err();
+    let (number, slot) = check.map_or((0, 0), |refusal| (refusal.number, refusal.slot));
+    let mut printed = format!("checked {number} {slot}\n").into_bytes();
     let mut buffer = vec![b'~'; usize::from(length)];
     let (number, slot, length) = match plain::list(file, &mut buffer) {
         Ok(length) => (0, 0, length),
         Err(refusal) => (refusal.number, refusal.slot, 0),
     };
-    let mut printed = format!("listed {number} {slot} {length}\n").into_bytes();
+    printed.extend(format!("listed {number} {slot} {length}\n").bytes());
     printed.append(&mut buffer);
     printed.push(b'\n');
     printed
