@@ -1,7 +1,10 @@
 // A coefficient slot.
 ghost use mathlib.Core.Path.{_≡_};
+ghost use lib.ListN.{length};
+ghost use Rattle.slots.specs.Bytes.{slotOf};
 ghost use Rattle.slots.specs.Layout.{coefficientsOf, coefficientsGood, coefficientsRead};
 use super::numbers;
+use super::slot;
 use vehicles::Coefficients;
 use vehicles::PerKilometre;
 use vehicles::PerMinute;
@@ -14,7 +17,8 @@ pub struct CoefficientsRead {
     pub next: u16,
 }
 
-fn coefficients_of(t: &[u8; 64]) -> Coefficients
+fn coefficients_of(t: &[u8]) -> Coefficients
+    requires { ⌜ length (now t) ≡ 64 ⌝ }
     ensures { λ r. ⌜ r ≡ coefficientsOf (now (t .entry)) ⌝ }
 {
     let warmup = [
@@ -34,13 +38,15 @@ fn coefficients_of(t: &[u8; 64]) -> Coefficients
     }
 }
 
-fn coefficients_good(t: &[u8; 64], k: Coefficients) -> bool
+fn coefficients_good(t: &[u8], k: Coefficients) -> bool
+    requires { ⌜ length (now t) ≡ 64 ⌝ }
     ensures { λ r. ⌜ r ≡ coefficientsGood (now (t .entry)) k ⌝ }
 {
     vehicles::coefficients_in_range(k) & numbers::zero_from(t, 32, 32)
 }
 
-pub fn read_coefficients(t: &[u8; 64]) -> CoefficientsRead
+fn coefficients_in(t: &[u8]) -> CoefficientsRead
+    requires { ⌜ length (now t) ≡ 64 ⌝ }
     ensures { λ r. ⌜ r ≡ coefficientsRead (now (t .entry)) ⌝ }
 {
     let k = coefficients_of(t);
@@ -50,4 +56,12 @@ pub fn read_coefficients(t: &[u8; 64]) -> CoefficientsRead
         coefficients: k,
         next: numbers::u16_at(t, 0),
     }
+}
+
+// What slot n of a file holds as coefficients.
+pub fn read_coefficients(file: &[u8], n: usize) -> CoefficientsRead
+    ensures { λ r. ⌜ r ≡ coefficientsRead (slotOf (now (file .entry)) n) ⌝ }
+{
+    let none = [0; 64];
+    coefficients_in(slot::slot_at(file, &none, n))
 }

@@ -1,8 +1,11 @@
 // A group's slot.
 ghost use mathlib.Core.Path.{_≡_};
-ghost use Prim.Native.Nat.{_≤_};
+ghost use Prim.Native.Nat.{_+_, _≤_};
+ghost use lib.ListN.{length};
+ghost use Rattle.slots.specs.Bytes.{slotOf};
 ghost use Rattle.slots.specs.Layout.{daysOf, distancesAt, groupOf, groupGood, groupRead};
 use super::numbers;
+use super::slot;
 use vehicles::Distances;
 use vehicles::Group;
 use vehicles::Metres;
@@ -17,7 +20,8 @@ pub struct GroupRead {
     pub first: u16,
 }
 
-fn days_of(t: &[u8; 64]) -> [u8; 12]
+fn days_of(t: &[u8]) -> [u8; 12]
+    requires { ⌜ length (now t) ≡ 64 ⌝ }
     ensures { λ r. ⌜ r ≡ daysOf (now (t .entry)) ⌝ }
 {
     [
@@ -36,8 +40,8 @@ fn days_of(t: &[u8; 64]) -> [u8; 12]
     ]
 }
 
-fn distances_at(t: &[u8; 64], at: usize) -> Distances
-    requires { ⌜ at ≤ 60 ⌝ }
+fn distances_at(t: &[u8], at: usize) -> Distances
+    requires { ⌜ at + 4 ≤ length (now t) ⌝ }
     ensures { λ r. ⌜ r ≡ distancesAt (now (t .entry)) at ⌝ }
 {
     Distances {
@@ -46,7 +50,8 @@ fn distances_at(t: &[u8; 64], at: usize) -> Distances
     }
 }
 
-fn group_of(t: &[u8; 64]) -> Group
+fn group_of(t: &[u8]) -> Group
+    requires { ⌜ length (now t) ≡ 64 ⌝ }
     ensures { λ r. ⌜ r ≡ groupOf (now (t .entry)) ⌝ }
 {
     Group {
@@ -68,13 +73,15 @@ fn group_of(t: &[u8; 64]) -> Group
     }
 }
 
-fn group_good(t: &[u8; 64], g: Group) -> bool
+fn group_good(t: &[u8], g: Group) -> bool
+    requires { ⌜ length (now t) ≡ 64 ⌝ }
     ensures { λ r. ⌜ r ≡ groupGood (now (t .entry)) g ⌝ }
 {
     vehicles::group_in_range(g) & (t[5] <= 3) & numbers::zero_from(t, 36, 28)
 }
 
-pub fn read_group(t: &[u8; 64]) -> GroupRead
+fn group_in(t: &[u8]) -> GroupRead
+    requires { ⌜ length (now t) ≡ 64 ⌝ }
     ensures { λ r. ⌜ r ≡ groupRead (now (t .entry)) ⌝ }
 {
     let group = group_of(t);
@@ -84,4 +91,12 @@ pub fn read_group(t: &[u8; 64]) -> GroupRead
         next: numbers::u16_at(t, 0),
         first: numbers::u16_at(t, 34),
     }
+}
+
+// What slot n of a file holds as a group.
+pub fn read_group(file: &[u8], n: usize) -> GroupRead
+    ensures { λ r. ⌜ r ≡ groupRead (slotOf (now (file .entry)) n) ⌝ }
+{
+    let none = [0; 64];
+    group_in(slot::slot_at(file, &none, n))
 }

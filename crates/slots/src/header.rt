@@ -1,7 +1,10 @@
 // Slot 0.
 ghost use mathlib.Core.Path.{_≡_};
+ghost use lib.ListN.{length};
+ghost use Rattle.slots.specs.Bytes.{slotOf};
 ghost use Rattle.slots.specs.Layout.{temperaturesOf, headerOf};
 use super::numbers;
+use super::slot;
 
 // The format number, the count of slots, the first group and store record, the temperatures, and whether the other bytes are zero.
 pub struct Header {
@@ -13,7 +16,8 @@ pub struct Header {
     pub rest: bool,
 }
 
-fn temperatures_of(t: &[u8; 64]) -> [i16; 12]
+fn temperatures_of(t: &[u8]) -> [i16; 12]
+    requires { ⌜ length (now t) ≡ 64 ⌝ }
     ensures { λ r. ⌜ r ≡ temperaturesOf (now (t .entry)) ⌝ }
 {
     [
@@ -32,7 +36,8 @@ fn temperatures_of(t: &[u8; 64]) -> [i16; 12]
     ]
 }
 
-pub fn read_header(t: &[u8; 64]) -> Header
+fn header_in(t: &[u8]) -> Header
+    requires { ⌜ length (now t) ≡ 64 ⌝ }
     ensures { λ r. ⌜ r ≡ headerOf (now (t .entry)) ⌝ }
 {
     Header {
@@ -43,4 +48,12 @@ pub fn read_header(t: &[u8; 64]) -> Header
         temperatures: temperatures_of(t),
         rest: numbers::zero_from(t, 32, 32),
     }
+}
+
+// What slot 0 of a file holds.
+pub fn read_header(file: &[u8]) -> Header
+    ensures { λ r. ⌜ r ≡ headerOf (slotOf (now (file .entry)) 0) ⌝ }
+{
+    let none = [0; 64];
+    header_in(slot::slot_at(file, &none, 0))
 }

@@ -13,7 +13,6 @@ pub use group::read_group;
 pub use header::Header;
 pub use header::read_header;
 pub use slot::next_of;
-pub use slot::slot_at;
 pub use store::Store;
 pub use store::StoreRead;
 pub use store::read_store;

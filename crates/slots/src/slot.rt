@@ -1,38 +1,26 @@
 // A slot's bytes, and its next index.
 ghost use mathlib.Core.Path.{_≡_};
-ghost use Prim.Native.Nat.{_+_, _≤_};
-ghost use lib.ListN.{length};
-ghost use Rattle.slots.specs.Bytes.{bytesFrom, slotOf};
+ghost use lib.ListN.{length, replicate};
+ghost use Rattle.slots.specs.Bytes.{slotOf};
 ghost use Rattle.slots.specs.Layout.{nextOf};
 use super::numbers;
 
-fn bytes_from(file: &[u8], base: usize) -> [u8; 64]
-    requires { ⌜ base + 64 ≤ length (now file) ⌝ }
-    ensures { λ r. ⌜ r ≡ bytesFrom (now (file .entry)) base ⌝ }
-{
-    let mut slot = [0; 64];
-    let mut i = 0;
-    while i < 64 {
-        slot[i] = file[base + i];
-        i += 1;
-    }
-    slot
-}
-
-// The 64 bytes of slot n, all zero where the file has no such slot.
-pub fn slot_at(file: &[u8], n: usize) -> [u8; 64]
-    ensures { λ r. ⌜ r ≡ slotOf (now (file .entry)) n ⌝ }
+// The 64 bytes of slot n where they stand in the file, or `none`, 64 zeros, where the file has no such slot.
+pub(crate) fn slot_at<'a>(file: &'a [u8], none: &'a [u8], n: usize) -> &'a [u8]
+    requires { ⌜ now none ≡ replicate 64 0 ⌝ }
+    ensures { λ r. ⌜ (now r ≡ slotOf (now (file .entry)) n) × (length (now r) ≡ 64) ⌝ }
 {
     if n < file.len() / 64 {
-        bytes_from(file, 64 * n)
+        &file[64 * n..64 * n + 64]
     } else {
-        [0; 64]
+        none
     }
 }
 
-// The next index of a slot.
-pub fn next_of(t: &[u8; 64]) -> u16
-    ensures { λ r. ⌜ r ≡ nextOf (now (t .entry)) ⌝ }
+// The next index of slot n.
+pub fn next_of(file: &[u8], n: usize) -> u16
+    ensures { λ r. ⌜ r ≡ nextOf (slotOf (now (file .entry)) n) ⌝ }
 {
-    numbers::u16_at(t, 0)
+    let none = [0; 64];
+    numbers::u16_at(slot_at(file, &none, n), 0)
 }

@@ -1,8 +1,11 @@
 // A store record's slot.
 ghost use mathlib.Core.Path.{_≡_};
+ghost use lib.ListN.{length};
+ghost use Rattle.slots.specs.Bytes.{slotOf};
 ghost use Rattle.slots.specs.Layout.{bulkOf, handlingOf, handlingGood, standingOf, standingGood, aspirationOf, aspirationGood, readBy, StoreReads};
 ghost use Rattle.slots.specs.declared.store.Store.the-variants as variants;
 use super::numbers;
+use super::slot;
 use stores::Aspiration;
 use stores::Bulk;
 use stores::Handling;
@@ -21,7 +24,8 @@ pub enum StoreRead {
     OutOfRange,
 }
 
-fn bulk_of(t: &[u8; 64]) -> Bulk
+fn bulk_of(t: &[u8]) -> Bulk
+    requires { ⌜ length (now t) ≡ 64 ⌝ }
     ensures { λ r. ⌜ r ≡ bulkOf (now (t .entry)) ⌝ }
 {
     Bulk {
@@ -36,7 +40,8 @@ fn bulk_of(t: &[u8; 64]) -> Bulk
     }
 }
 
-fn handling_of(t: &[u8; 64]) -> Handling
+fn handling_of(t: &[u8]) -> Handling
+    requires { ⌜ length (now t) ≡ 64 ⌝ }
     ensures { λ r. ⌜ r ≡ handlingOf (now (t .entry)) ⌝ }
 {
     Handling {
@@ -45,7 +50,8 @@ fn handling_of(t: &[u8; 64]) -> Handling
     }
 }
 
-fn handling_good(t: &[u8; 64], h: Handling) -> bool
+fn handling_good(t: &[u8], h: Handling) -> bool
+    requires { ⌜ length (now t) ≡ 64 ⌝ }
     ensures { λ r. ⌜ r ≡ handlingGood (now (t .entry)) h ⌝ }
 {
     stores::handling_in_range(h)
@@ -54,7 +60,8 @@ fn handling_good(t: &[u8; 64], h: Handling) -> bool
         & numbers::zero_from(t, 24, 40)
 }
 
-fn read_handling(t: &[u8; 64]) -> StoreRead
+fn read_handling(t: &[u8]) -> StoreRead
+    requires { ⌜ length (now t) ≡ 64 ⌝ }
     ensures { λ r. ⌜ r ≡ readBy (handlingGood (now (t .entry)) (handlingOf (now (t .entry)))) (variants.Handling (handlingOf (now (t .entry)))) ⌝ }
 {
     let h = handling_of(t);
@@ -65,7 +72,8 @@ fn read_handling(t: &[u8; 64]) -> StoreRead
     }
 }
 
-fn standing_of(t: &[u8; 64]) -> Standing
+fn standing_of(t: &[u8]) -> Standing
+    requires { ⌜ length (now t) ≡ 64 ⌝ }
     ensures { λ r. ⌜ r ≡ standingOf (now (t .entry)) ⌝ }
 {
     Standing {
@@ -74,7 +82,8 @@ fn standing_of(t: &[u8; 64]) -> Standing
     }
 }
 
-fn standing_good(t: &[u8; 64], s: Standing) -> bool
+fn standing_good(t: &[u8], s: Standing) -> bool
+    requires { ⌜ length (now t) ≡ 64 ⌝ }
     ensures { λ r. ⌜ r ≡ standingGood (now (t .entry)) s ⌝ }
 {
     stores::standing_in_range(s)
@@ -84,7 +93,8 @@ fn standing_good(t: &[u8; 64], s: Standing) -> bool
         & numbers::zero_from(t, 24, 40)
 }
 
-fn read_standing(t: &[u8; 64]) -> StoreRead
+fn read_standing(t: &[u8]) -> StoreRead
+    requires { ⌜ length (now t) ≡ 64 ⌝ }
     ensures { λ r. ⌜ r ≡ readBy (standingGood (now (t .entry)) (standingOf (now (t .entry)))) (variants.Standing (standingOf (now (t .entry)))) ⌝ }
 {
     let s = standing_of(t);
@@ -95,7 +105,8 @@ fn read_standing(t: &[u8; 64]) -> StoreRead
     }
 }
 
-fn aspiration_of(t: &[u8; 64]) -> Aspiration
+fn aspiration_of(t: &[u8]) -> Aspiration
+    requires { ⌜ length (now t) ≡ 64 ⌝ }
     ensures { λ r. ⌜ r ≡ aspirationOf (now (t .entry)) ⌝ }
 {
     Aspiration {
@@ -108,13 +119,15 @@ fn aspiration_of(t: &[u8; 64]) -> Aspiration
     }
 }
 
-fn aspiration_good(t: &[u8; 64], a: Aspiration) -> bool
+fn aspiration_good(t: &[u8], a: Aspiration) -> bool
+    requires { ⌜ length (now t) ≡ 64 ⌝ }
     ensures { λ r. ⌜ r ≡ aspirationGood (now (t .entry)) a ⌝ }
 {
     stores::aspiration_in_range(a) & numbers::zero_from(t, 6, 2) & numbers::zero_from(t, 20, 44)
 }
 
-fn read_aspiration(t: &[u8; 64]) -> StoreRead
+fn read_aspiration(t: &[u8]) -> StoreRead
+    requires { ⌜ length (now t) ≡ 64 ⌝ }
     ensures { λ r. ⌜ r ≡ readBy (aspirationGood (now (t .entry)) (aspirationOf (now (t .entry)))) (variants.Aspiration (aspirationOf (now (t .entry)))) ⌝ }
 {
     let a = aspiration_of(t);
@@ -125,7 +138,8 @@ fn read_aspiration(t: &[u8; 64]) -> StoreRead
     }
 }
 
-pub fn read_store(t: &[u8; 64]) -> StoreRead
+fn store_in(t: &[u8]) -> StoreRead
+    requires { ⌜ length (now t) ≡ 64 ⌝ }
     ensures { λ r. ⌜ StoreReads (now (t .entry)) r ⌝ }
 {
     let kind = t[2];
@@ -135,4 +149,12 @@ pub fn read_store(t: &[u8; 64]) -> StoreRead
         5 => read_aspiration(t),
         _ => StoreRead::WrongKind,
     }
+}
+
+// What slot n of a file holds as a store record.
+pub fn read_store(file: &[u8], n: usize) -> StoreRead
+    ensures { λ r. ⌜ StoreReads (slotOf (now (file .entry)) n) r ⌝ }
+{
+    let none = [0; 64];
+    store_in(slot::slot_at(file, &none, n))
 }

@@ -19,8 +19,7 @@ use totals::Totals;
 fn header_of(file: &[u8]) -> Header
     ensures { λ r. ⌜ r ≡ headerOf (slotOf (now (file .entry)) 0) ⌝ }
 {
-    let t = slots::slot_at(file, 0);
-    slots::read_header(&t)
+    slots::read_header(file)
 }
 
 // No slot is marked but slot 0.

@@ -28,8 +28,7 @@ pub(crate) struct GroupStep {
 fn group_at(file: &[u8], link: u16) -> GroupRead
     ensures { λ r. ⌜ r ≡ groupRead (slotOf (now (file .entry)) link) ⌝ }
 {
-    let t = slots::slot_at(file, link as usize);
-    slots::read_group(&t)
+    slots::read_group(file, link as usize)
 }
 
 // All that is asked of a link to a group. The group's slot is marked as a source, and it and its coefficient slots as reached.

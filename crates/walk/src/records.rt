@@ -42,8 +42,7 @@ fn step_store(
     requires { ⌜ (length (now file) ≤ 65536) × (link ≡ 0 → ⊥) ⌝ }
     ensures { λ r. ⌜ StoreStepped (now (file .entry)) holder link (now (sources .entry)) (now (sources .exit)) (now (reached .entry)) (now (reached .exit)) r ⌝ }
 {
-    let t = slots::slot_at(file, link as usize);
-    let read = slots::read_store(&t);
+    let read = slots::read_store(file, link as usize);
     let verdict = questions::ask_link(file, sources, holder, link, number_of(read));
     if verdict.number != 0 {
         return StoreStep {
@@ -58,7 +57,7 @@ fn step_store(
     StoreStep {
         verdict,
         read,
-        next: slots::next_of(&t),
+        next: slots::next_of(file, k),
     }
 }
 

@@ -35,8 +35,7 @@ fn no_row() -> Coefficients {
 fn row_at(file: &[u8], link: u16) -> CoefficientsRead
     ensures { λ r. ⌜ r ≡ coefficientsRead (slotOf (now (file .entry)) link) ⌝ }
 {
-    let t = slots::slot_at(file, link as usize);
-    slots::read_coefficients(&t)
+    slots::read_coefficients(file, link as usize)
 }
 
 pub(crate) fn no_rows() -> [Coefficients; 6] {

@@ -1,14 +1,34 @@
--- A slot that the file has, and one that it has not.
+-- A slot that the file has is the part of it from 64 n on; one that it has not is the zeros.
 use borrow.Author.Needs.{needs}
-use mathlib.Core.Path.{refl}
 use borrow.Author.Tests.{lt-ltb, le-ltb}
-use Rattle.sums.proofs.Choices.{yes, no}
-use Rattle.slots.specs.Bytes.{slotOf}
+use native.Mathlib.Omega.{arith}
+use mathlib.Core.Path.{_≡_, sym, ap, _∙_}
+use mathlib.Core.List.{List}
+use Prim.Native.Nat.{ℕ, _+_, _*_, _-_}
+use lib.ListN.{getD, length, take, drop}
+use lib.Seq.{getD-take, getD-drop}
+use Rattle.sums.proofs.Choices.{yes, no, listTo-is}
+use Rattle.slots.specs.Bytes.{bytesFrom, slotOf}
 use Rattle.slots.proofs.slot.slot_at.Statement.{statement}
 use Rattle.slots.proofs.slot.slot_at.Tie as tie
 
-pub slot-at-spec : {M : Type 1} → statement M
+part-is : (s : List ℕ) (base k : ℕ) → k ≡ 64 → length (take k (drop base s)) ≡ 64 → take k (drop base s) ≡ bytesFrom s base
+unfolding bytesFrom
+part-is s base k e h = listTo-is 0 64 (take k (drop base s)) (λ (i : ℕ). getD s (base + i) 0) h (λ i p. rw (e, getD-take, getD-drop))
+
+returns : tie.Need-returns
 unfolding slotOf
+returns c =
+    let a = c .before .before .args in
+    let e : 64 * a .n + 64 - 64 * a .n ≡ 64 = omega arith in
+    let l = sym (c .result .given .1) ∙ e in
+    (yes _ _ _ _ (lt-ltb _ _ (c .before .if1 .taken)) (part-is (a .file .now) (64 * a .n) _ e l), l)
+
+returns-2 : tie.Need-returns-2
+unfolding slotOf
+returns-2 c = let e = c .before .pre in (no _ _ _ _ (le-ltb _ _ (c .if1 .left)) e, ap length e)
+
+pub slot-at-spec : {M : Type 1} → statement M
 slot-at-spec =
     tie.close
-    (tie.spec (search needs) (search needs) (λ c. yes _ _ _ _ (lt-ltb _ _ (c .before .if1 .taken)) (c .bytes-from .ensures)) (λ c. no _ _ _ _ (le-ltb _ _ (c .if1 .left)) refl))
+    (tie.spec (search needs) (search needs) (search needs) (search needs) (search needs) (search needs) returns returns-2)

@@ -4,7 +4,7 @@ use native.Mathlib.Omega.{arith}
 use Prim.Native.Nat.{ℕ}
 use mathlib.Core.Path.{_≡_, refl, ap, _∙_}
 use mathlib.Core.List.{List, _++_}
-use Rattle.slots.specs.Layout.{nextOf, readStore, readNumber}
+use Rattle.slots.specs.Layout.{readNumber}
 use Rattle.slots.specs.declared.store.StoreRead.{StoreRead}
 use Rattle.slot_file.specs.Questions.{lastOf, storeAsks}
 use Rattle.slot_file.specs.Parts.{marksOf}
@@ -16,10 +16,9 @@ use Rattle.walk.proofs.records.step_store.Tie as tie
 returns : tie.Need-returns
 returns c =
     let l = c .before .before in
-    let t = l .before .before .before .before .before .slot-at .ensures in
-    let a = l .before .before .before .before .before .before .before in
+    let a = l .before .before .before .before .before in
     let s = a .args .file .now in
-    let e = l .before .before .before .read-store .ensures .0 ∙ ap readStore t in
+    let e = l .before .before .before .read-store .ensures .0 in
     let told : (gs b : List ℕ) → a .args .sources .now ≡ marksOf (b ++ gs) → a .args .holder ≡ lastOf b → Told (storeAsks s gs b (a .args .link)) _ =
     λ gs b. store-told s gs b (l .ask-link .ensures) (l .before .number-of .ensures ∙ ap (λ (r : StoreRead). readNumber r) e) (a .pre .1) in
     record { read = e; told = told; passed = λ y. absurd (c .if1 .taken y) }
@@ -32,16 +31,15 @@ element-write-reached c = omega (arith, c .before .before .ask-link .ensures .be
 
 returns-2 : tie.Need-returns-2
 returns-2 c =
-    let l = c .before .before .before .before in
-    let t = l .before .before .before .before .before .slot-at .ensures in
-    let a = l .before .before .before .before .before .before .before in
+    let l = c .before .before .before in
+    let a = l .before .before .before .before .before in
     let s = a .args .file .now in
-    let e = l .before .before .before .read-store .ensures .0 ∙ ap readStore t in
+    let e = l .before .before .before .read-store .ensures .0 in
     let told : (gs b : List ℕ) → a .args .sources .now ≡ marksOf (b ++ gs) → a .args .holder ≡ lastOf b → Told (storeAsks s gs b (a .args .link)) _ =
     λ gs b. store-told s gs b (l .ask-link .ensures) (l .before .number-of .ensures ∙ ap (λ (r : StoreRead). readNumber r) e) (a .pre .1) in
-    record { read = e; told = told; passed = λ _. record { next = c .next-of .ensures ∙ ap nextOf t; source-marked = refl; slot-marked = refl } }
+    record { read = e; told = told; passed = λ _. record { next = c .next-of .ensures; source-marked = refl; slot-marked = refl } }
 
 pub step-store-spec : {M : Type 1} → statement M
 step-store-spec =
     tie.close
-    (tie.spec (search needs) (search needs) (search needs) (search needs) returns element-write-sources element-write-reached (search needs) returns-2)
+    (tie.spec (search needs) (search needs) (search needs) returns element-write-sources element-write-reached (search needs) returns-2)
