@@ -2,15 +2,12 @@
 ghost use mathlib.Core.Path.{_≡_};
 ghost use Prim.Native.Nat.{_≤_};
 ghost use lib.ListN.{length};
-ghost use Rattle.slots.specs.Bytes.{slotOf};
-ghost use Rattle.slots.specs.Layout.{groupRead};
 ghost use Rattle.vehicles.specs.Rules.{groupAnswer};
 ghost use Rattle.walk.specs.Steps.{GroupStepped};
 ghost use Rattle.walk.specs.Walked.{plusGroup, GroupsBegin, GroupsWalked};
 use super::questions;
 use super::rows;
 use super::walked::Walked;
-use slots::GroupRead;
 use slots::Header;
 use sums::Verdict;
 use totals::Totals;
@@ -25,12 +22,6 @@ pub(crate) struct GroupStep {
     pub(crate) next: u16,
 }
 
-fn group_at(file: &[u8], link: u16) -> GroupRead
-    ensures { λ r. ⌜ r ≡ groupRead (slotOf (now (file .entry)) link) ⌝ }
-{
-    slots::read_group(file, link as usize)
-}
-
 // All that is asked of a link to a group. The group's slot is marked as a source, and it and its coefficient slots as reached.
 fn step_group(
     file: &[u8],
@@ -42,7 +33,8 @@ fn step_group(
     requires { ⌜ (length (now file) ≤ 65536) × (link ≡ 0 → ⊥) ⌝ }
     ensures { λ r. ⌜ GroupStepped (now (file .entry)) holder link (now (sources .entry)) (now (sources .exit)) (now (reached .entry)) (now (reached .exit)) r ⌝ }
 {
-    let read = group_at(file, link);
+    let k = link as usize;
+    let read = slots::read_group(file, k);
     let group = read.group;
     let verdict = questions::ask_link(file, sources, holder, link, read.number);
     if verdict.number != 0 {
@@ -53,7 +45,6 @@ fn step_group(
             next: read.next,
         };
     }
-    let k = link as usize;
     sources[k] = true;
     reached[k] = true;
     let rows = rows::read_rows(file, reached, link, read.first);

@@ -42,7 +42,8 @@ fn step_store(
     requires { ⌜ (length (now file) ≤ 65536) × (link ≡ 0 → ⊥) ⌝ }
     ensures { λ r. ⌜ StoreStepped (now (file .entry)) holder link (now (sources .entry)) (now (sources .exit)) (now (reached .entry)) (now (reached .exit)) r ⌝ }
 {
-    let read = slots::read_store(file, link as usize);
+    let k = link as usize;
+    let read = slots::read_store(file, k);
     let verdict = questions::ask_link(file, sources, holder, link, number_of(read));
     if verdict.number != 0 {
         return StoreStep {
@@ -51,7 +52,6 @@ fn step_store(
             next: 0,
         };
     }
-    let k = link as usize;
     sources[k] = true;
     reached[k] = true;
     StoreStep {

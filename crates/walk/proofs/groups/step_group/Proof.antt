@@ -16,7 +16,7 @@ returns c =
     let a = l .before .before .before .before .before in
     let s = a .args .file .now in
     let g = a .args .link in
-    let e = l .before .before .before .group-at .ensures in
+    let e = l .before .before .before .read-group .ensures in
     record {
       told = λ b m h. link-refused s b g (link-told s b g (a .args .holder) _ (l .ask-link .ensures) e (a .pre .1) m h) (c .before .if1 .taken);
       passed = λ y. absurd (c .before .if1 .taken y);
@@ -29,7 +29,7 @@ element-write-reached : tie.Need-element-write-reached
 element-write-reached c = omega (arith, c .before .before .ask-link .ensures .below (c .if1 .left))
 
 read-rows-requires : tie.Need-read-rows-requires
-read-rows-requires c κs = (search needs, ap (λ (r : GroupRead). r .first) (c .before .before .before .before .before .before .group-at .ensures))
+read-rows-requires c κs = (search needs, ap (λ (r : GroupRead). r .first) (c .before .before .before .before .before .before .read-group .ensures))
 
 returns-2 : tie.Need-returns-2
 unfolding groupAt groupRead
@@ -39,7 +39,7 @@ returns-2 c =
     let a = l .before .before .before .before .before in
     let s = a .args .file .now in
     let g = a .args .link in
-    let e = l .before .before .before .group-at .ensures in
+    let e = l .before .before .before .read-group .ensures in
     let t = c .ask-soot-and-lead .ensures in
     let f = ap (λ (r : GroupRead). r .group) e in
     record {
