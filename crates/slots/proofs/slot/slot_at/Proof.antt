@@ -4,7 +4,7 @@ use borrow.Author.Tests.{lt-ltb, le-ltb}
 use native.Mathlib.Omega.{arith}
 use mathlib.Core.Path.{_≡_, sym, ap, _∙_}
 use mathlib.Core.List.{List}
-use Prim.Native.Nat.{ℕ, _+_, _*_, _-_}
+use Prim.Native.Nat.{ℕ, _+_}
 use lib.ListN.{getD, length, take, drop}
 use lib.Seq.{getD-take, getD-drop}
 use Rattle.sums.proofs.Choices.{yes, no, listTo-is}
@@ -12,17 +12,15 @@ use Rattle.slots.specs.Bytes.{bytesFrom, slotOf}
 use Rattle.slots.proofs.slot.slot_at.Statement.{statement}
 use Rattle.slots.proofs.slot.slot_at.Tie as tie
 
-part-is : (s : List ℕ) (base k : ℕ) → k ≡ 64 → length (take k (drop base s)) ≡ 64 → take k (drop base s) ≡ bytesFrom s base
+part-is : (s : List ℕ) (base k : ℕ) → k ≡ 64 → k ≡ length (take k (drop base s)) → take k (drop base s) ≡ bytesFrom s base
 unfolding bytesFrom
-part-is s base k e h = listTo-is 0 64 (take k (drop base s)) (λ (i : ℕ). getD s (base + i) 0) h (λ i p. rw (e, getD-take, getD-drop))
+part-is s base k e l = listTo-is 0 64 (take k (drop base s)) (λ (i : ℕ). getD s (base + i) 0) (sym l ∙ e) (λ i p. rw (e, getD-take, getD-drop))
 
 returns : tie.Need-returns
 unfolding slotOf
 returns c =
-    let a = c .before .before .args in
-    let e : 64 * a .n + 64 - 64 * a .n ≡ 64 = omega arith in
-    let l = sym (c .result .given .1) ∙ e in
-    (yes _ _ _ _ (lt-ltb _ _ (c .before .if1 .taken)) (part-is (a .file .now) (64 * a .n) _ e l), l)
+    let l = c .result .given .1 in
+    (yes _ _ _ _ (lt-ltb _ _ (c .before .if1 .taken)) (part-is _ _ _ (omega arith) l), omega arith)
 
 returns-2 : tie.Need-returns-2
 unfolding slotOf
