@@ -54,9 +54,7 @@ fn annual_of(g: Group, year: u64) -> AnnualSum
     requires { ⌜ (groupInRange g ≡ true) × (year ≤ 8928000000000000) ⌝ }
     ensures { λ r. ⌜ r ≡ annualOf (year * g .share * g .vehicles * 100) ⌝ }
 {
-    AnnualSum::of(year * units::wide8(g.share))
-        .times(g.vehicles)
-        .times(100)
+    AnnualSum::of(year * units::wide8(g.share) * 20).times(5 * g.vehicles)
 }
 
 // 2,000,000,000ths of a gram over 3,600 seconds are 7,200,000,000,000ths of a gram per second, 500 exact units each.

@@ -18,6 +18,14 @@ fn product(a: u32, b: u32) -> u64
     (a as u64) * (b as u64)
 }
 
+impl Minutes {
+    pub(crate) fn of(tenths: u16) -> Minutes
+        ensures { λ r. ⌜ r .0 ≡ tenths ⌝ }
+    {
+        Minutes(tenths as u32)
+    }
+}
+
 impl PerMinute {
     pub(crate) fn over(self, t: Minutes) -> u64
         ensures { λ r. ⌜ r ≡ self .0 * t .0 ⌝ }

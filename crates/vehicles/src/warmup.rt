@@ -15,11 +15,11 @@ pub struct Conditions {
 }
 
 // Tenths of a minute, by the bands of temperature from the warmest.
-const CAR: [u32; 7] = [30, 40, 100, 150, 150, 200, 200];
+const CAR: [u16; 7] = [30, 40, 100, 150, 150, 200, 200];
 
-const TRUCK: [u32; 7] = [40, 60, 120, 200, 250, 300, 300];
+const TRUCK: [u16; 7] = [40, 60, 120, 200, 250, 300, 300];
 
-fn table_minutes(category: u8, t: i16) -> u32
+fn table_minutes(category: u8, t: i16) -> u16
     ensures { λ r. ⌜ r ≡ partsOf 10 (tableMinutes category t) ⌝ }
 {
     let band = temperature::warmup_band(t);
@@ -30,7 +30,7 @@ fn table_minutes(category: u8, t: i16) -> u32
     }
 }
 
-fn minutes_at(g: Group, t: i16) -> u32
+fn minutes_at(g: Group, t: i16) -> u16
     ensures { λ r. ⌜ r ≡ partsOf 10 (minutesAt g t) ⌝ }
 {
     if g.heated {
@@ -51,7 +51,7 @@ pub(crate) fn conditions_at(g: Group, t: i16) -> Conditions
 {
     Conditions {
         period: period_at(g, t),
-        minutes: Minutes(minutes_at(g, t)),
+        minutes: Minutes::of(minutes_at(g, t)),
     }
 }
 

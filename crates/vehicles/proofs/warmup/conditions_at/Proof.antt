@@ -9,7 +9,7 @@ pub conditions-at-spec : {M : Type 1} → statement M
 unfolding conditionsAt
 conditions-at-spec =
     tie.close
-    (tie.spec (search needs) (search needs)
+    (tie.spec (search needs) (search needs) (search needs)
     (λ c.
-    let t = toZ-ofZ (c .before .before .fits .t) in
-    rw (simp t at (c .before .period-at .ensures), simp t at (c .minutes-at .ensures))))
+    let t = toZ-ofZ (c .before .before .before .fits .t) in
+    rw (simp t at (c .before .before .period-at .ensures), c .of .ensures, simp t at (c .before .minutes-at .ensures))))
