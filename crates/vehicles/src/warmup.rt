@@ -3,7 +3,7 @@ ghost use mathlib.Core.Path.{_≡_};
 ghost use Prim.Native.Nat.{_<_};
 ghost use Rattle.sums.specs.Fraction.{partsOf};
 ghost use Rattle.vehicles.specs.Rules.{tableMinutes, minutesAt, periodAt};
-ghost use Rattle.vehicles.specs.Parts.{conditionsAt, conditionsOf};
+ghost use Rattle.vehicles.specs.Parts.{ConditionsInRange, conditionsAt};
 use super::group::Group;
 use super::temperature;
 use super::units::Minutes;
@@ -47,27 +47,10 @@ fn period_at(g: Group, t: i16) -> usize
 }
 
 pub(crate) fn conditions_at(g: Group, t: i16) -> Conditions
-    ensures { λ r. ⌜ r ≡ conditionsAt g t ⌝ }
+    ensures { λ r. ⌜ (r ≡ conditionsAt g t) × ConditionsInRange r ⌝ }
 {
     Conditions {
         period: period_at(g, t),
         minutes: Minutes::of(minutes_at(g, t)),
     }
-}
-
-// Month by month.
-pub(crate) fn conditions_of(g: Group, ts: [i16; 12]) -> [Conditions; 12]
-    ensures { λ r. ⌜ r ≡ conditionsOf g ts ⌝ }
-{
-    let none = Conditions {
-        period: 0,
-        minutes: Minutes(0),
-    };
-    let mut months = [none; 12];
-    let mut i = 0;
-    while i < 12 {
-        months[i] = conditions_at(g, ts[i]);
-        i += 1;
-    }
-    months
 }
