@@ -1,6 +1,6 @@
 -- No group in range gives a code more than a full file's sums allow, so those are exact, and its answer has exactly the rule's tonnes and grams. A
 -- formula's bound is written as the formula is. Assumes nothing.
-use Prim.Native.Nat.{ℕ, _*_, _<_, _≤_}
+use Prim.Native.Nat.{ℕ, _+_, _*_, _<_, _≤_}
 use native.Mathlib.Nat.{le-refl, add-le-add}
 use native.Mathlib.Omega.{arith}
 use mathlib.Core.Path.{_≡_}
@@ -11,49 +11,46 @@ use lib.ListN.{getD}
 use Rattle.sums.specs.Choice.{if_then_else}
 use Rattle.sums.specs.Fraction.{partsOf}
 use Rattle.sums.specs.Answer.{noEmission}
-use Rattle.sums.proofs.Choices.{sumTo-bound, listTo-at}
+use Rattle.sums.proofs.Choices.{listTo-at}
 use Rattle.sums.proofs.Products.{_⊗_}
 use Rattle.sums.proofs.Sources.{Bounded, bounded, Exactly, exactly}
-use Rattle.vehicles.specs.Fields.{distancesInRange, groupInRange, coefficientsInRange, noCoefficients}
+use Rattle.vehicles.specs.Fields.{groupInRange, coefficientsInRange, noCoefficients}
 use Rattle.vehicles.specs.Rules.{controlOf, annualTonnes, peakGrams, lowestOf, contributionOf, emissionOf, emissionsOf, inRange, notZero, groupAnswer}
-use Rattle.vehicles.specs.Parts.{conditionsAt, conditionsOf, noConditions, ConditionsInRange, YearInRange, runAndIdleParts, outParts, dayParts, monthParts, yearParts}
-use Rattle.vehicles.specs.declared.group.Distances.{Distances}
+use Rattle.vehicles.specs.Parts.{conditionsAt, activityOf, ConditionsInRange, ActivityInRange, NeutraliserInRange, massParts, outParts, yearParts}
 use Rattle.vehicles.specs.declared.group.Group.{Group}
+use Rattle.vehicles.specs.declared.group.Neutraliser.{Neutraliser}
 use Rattle.vehicles.specs.declared.group.Coefficients.{Coefficients}
 use Rattle.vehicles.specs.declared.warmup.Conditions.{Conditions}
-use Rattle.vehicles.proofs.Ranges.{ranged, twice, days, warmup, run, idle, of-six, all-in-range}
-use Rattle.vehicles.proofs.Scales.{control, conditions-in-range, year-in-range}
+use Rattle.vehicles.specs.declared.activity.Activity.{Activity}
+use Rattle.vehicles.proofs.Ranges.{ranged, twice, warmup, run, idle, of-six, all-in-range}
+use Rattle.vehicles.proofs.Scales.{control, conditions-in-range}
+use Rattle.vehicles.proofs.Periods.{warmup-parts, run-parts, idle-parts, activity-in-range}
 use Rattle.vehicles.proofs.Paper.{counted}
 
-module _ (g : Group) (k : Coefficients) (c : ℕ) (hg : groupInRange g ≡ true) (hk : coefficientsInRange k ≡ true) (hc : c ≤ 100) where
-  run-and-idle-most : (n : ℕ) (d : Distances) → n < 3 → distancesInRange d ≡ true → runAndIdleParts g k c n d ≤ 9000000000000
-  unfolding runAndIdleParts
-  run-and-idle-most n d p h =
-      let r = ranged g hg in
-      add-le-add (run k hk n p ⊗ twice d h ⊗ r .running) (le-refl 2 ⊗ (idle k hk ⊗ r .idle) ⊗ hc ⊗ r .running)
+mass-most : {v : Neutraliser} {c w r i x y z : ℕ} → NeutraliserInRange v → c ≤ 100 → w ≤ x → r ≤ y → i ≤ z →
+    massParts v c w r i ≤ 2 * x * 100 * 100 + (y * 100 + 2 * z * 100 * 100)
+unfolding massParts
+mass-most v c w r i =
+    add-le-add (le-refl 2 ⊗ w ⊗ c ⊗ v .warming) (add-le-add (r ⊗ v .running) (le-refl 2 ⊗ i ⊗ c ⊗ v .running))
 
-  out-most : (w : Conditions) → ConditionsInRange w → outParts g k c w ≤ 15000000000000
+module _ (g : Group) (k : Coefficients) (c : ℕ) (hg : groupInRange g ≡ true) (hk : coefficientsInRange k ≡ true) (hc : c ≤ 100) where
+  pub out-most : (w : Conditions) → ConditionsInRange w → outParts g k c w ≤ 15000000000000
   unfolding outParts
   out-most w h =
       let r = ranged g hg in
-      add-le-add (le-refl 2 ⊗ (warmup k hk (w .period) (h .period) ⊗ h .minutes) ⊗ hc ⊗ r .warming) (run-and-idle-most (w .period) (g .outward) (h .period) (r .outward))
+      mass-most (r .neutraliser) hc (warmup k hk (w .period) (h .period) ⊗ h .minutes) (run k hk (w .period) (h .period) ⊗ twice (g .outward) (r .outward)) (idle k hk ⊗ r .idle)
 
-  year-most : (ws : List Conditions) → YearInRange ws → yearParts g k c ws ≤ 8928000000000000
-  unfolding yearParts dayParts
-  year-most ws h =
-      let r = ranged g hg in
-      sumTo-bound 744000000000000 (monthParts g k c ws) 12
-      (λ (m : ℕ) (p : m < 12).
-      add-le-add (out-most (getD ws m noConditions) (h m p)) (run-and-idle-most (getD ws m noConditions .period) (g .inward) (h m p .period) (r .inward))
-      ⊗ days (g .days) (r .days) m p)
+  pub year-most : (a : Activity) → ActivityInRange a → yearParts g k c a ≤ 8928000000000000
+  unfolding yearParts
+  year-most a h = mass-most (ranged g hg .neutraliser) hc (warmup-parts k a hk h) (run-parts k a hk h) (idle-parts k a hk h)
 
 module _ (g : Group) (ts : List ℤ) (k : Coefficients) (hg : groupInRange g ≡ true) (hk : coefficientsInRange k ≡ true) (p : ℕ) where
   pub group-bounded : Bounded (annualTonnes g ts k (controlOf g p)) (peakGrams g k (controlOf g p) (lowestOf ts))
   group-bounded =
       let c = partsOf 100 (controlOf g p) in
       let r = ranged g hg in
-      let a : yearParts g k c (conditionsOf g ts) * g .share * g .vehicles ≤ 8928000000000000000000 =
-      year-most g k c hg hk (control g p .most) (conditionsOf g ts) (year-in-range g ts) ⊗ r .share ⊗ r .vehicles in
+      let a : yearParts g k c (activityOf g ts) * g .share * g .vehicles ≤ 8928000000000000000000 =
+      year-most g k c hg hk (control g p .most) (activityOf g ts) (activity-in-range g ts hg) ⊗ r .share ⊗ r .vehicles in
       let b : outParts g k c (conditionsAt g (lowestOf ts)) * g .leaving ≤ 150000000000000000 =
       out-most g k c hg hk (control g p .most) (conditionsAt g (lowestOf ts)) (conditions-in-range g (lowestOf ts)) ⊗ r .leaving in
       bounded (counted g ts k p) (omega arith) (omega arith)

@@ -2,5 +2,6 @@
 pub mod Edges
 pub mod Ranges
 pub mod Scales
+pub mod Periods
 pub mod Paper
 pub mod Bounds

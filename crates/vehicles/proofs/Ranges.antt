@@ -12,7 +12,7 @@ use lib.ListN.{getD}
 use Rattle.sums.proofs.Choices.{left, right, nth, each, allTo-at}
 use Rattle.vehicles.specs.Fields.{distancesInRange, daysInRange, monthLengths, temperaturesInRange, groupInRange, groupTests, coefficientsInRange, seven, noMinute, noKilometre, allInRange, noCoefficients}
 use Rattle.vehicles.specs.Rules.{inRange}
-use Rattle.vehicles.specs.Parts.{distanceSum}
+use Rattle.vehicles.specs.Parts.{distanceSum, NeutraliserInRange}
 use Rattle.vehicles.specs.declared.group.Distances.{Distances}
 use Rattle.vehicles.specs.declared.group.Group.{Group}
 use Rattle.vehicles.specs.declared.group.Coefficients.{Coefficients}
@@ -35,8 +35,7 @@ pub record Ranged (g : Group) : Type 0 where
   pub vehicles : g .vehicles ≤ 10000
   pub leaving : g .leaving ≤ 10000
   pub share : g .share ≤ 100
-  pub running : g .neutraliser .running ≤ 100
-  pub warming : g .neutraliser .warming ≤ 100
+  pub neutraliser : NeutraliserInRange (g .neutraliser)
   pub idle : g .idle .0 ≤ 250
   pub outward : distancesInRange (g .outward) ≡ true
   pub inward : distancesInRange (g .inward) ≡ true
@@ -50,8 +49,7 @@ ranged g h =
       vehicles = leb-true (g .vehicles) 10000 (t 5);
       leaving = le-trans (leb-true (g .leaving) (g .vehicles) (t 6)) (leb-true (g .vehicles) 10000 (t 5));
       share = leb-true (g .share) 100 (t 7);
-      running = leb-true (g .neutraliser .running) 100 (t 8);
-      warming = leb-true (g .neutraliser .warming) 100 (t 9);
+      neutraliser = record { running = leb-true (g .neutraliser .running) 100 (t 8); warming = leb-true (g .neutraliser .warming) 100 (t 9) };
       idle = leb-true (g .idle .0) 250 (t 10);
       outward = t 11;
       inward = t 12;
@@ -65,7 +63,7 @@ days l h m p =
     (leb-true (getD l m 0) (getD monthLengths m 0) (allTo-at 12 (λ (m : ℕ). leb (getD l m 0) (getD monthLengths m 0)) h m p))
     (each 31 monthLengths refl m)
 
-three : (P : ℕ → Type 0) → P 0 → P 1 → P 2 → (p : ℕ) → p < 3 → P p
+pub three : (P : ℕ → Type 0) → P 0 → P 1 → P 2 → (p : ℕ) → p < 3 → P p
 three P a b c zero h = a
 three P a b c (suc zero) h = b
 three P a b c (suc (suc zero)) h = c

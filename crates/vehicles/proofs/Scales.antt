@@ -3,14 +3,13 @@ use Prim.Native.Nat.{ℕ, _<_, suc-le-suc}
 use mathlib.Core.Path.{refl}
 use mathlib.Core.List.{List, [], _∷_}
 use lib.Dec.{eqb, lit<}
-use lib.IntN.{ℤ, pos}
-use lib.ListN.{getD}
+use lib.IntN.{ℤ}
 use Rattle.sums.specs.Fraction.{whole, _over_, partsOf}
-use Rattle.sums.proofs.Choices.{both, listTo-at}
+use Rattle.sums.proofs.Choices.{both}
 use Rattle.sums.proofs.Tables.{Scaled, allScaled, entry}
 use Rattle.vehicles.specs.Fields.{minus}
 use Rattle.vehicles.specs.Rules.{warmupBand, periodAt, carMinutes, truckMinutes, tableMinutes, minutesAt, petrolControl, dieselControl, controlOf}
-use Rattle.vehicles.specs.Parts.{conditionsAt, conditionsOf, noConditions, ConditionsInRange, YearInRange}
+use Rattle.vehicles.specs.Parts.{conditionsAt, ConditionsInRange}
 use Rattle.vehicles.specs.declared.group.Group.{Group}
 use Rattle.vehicles.proofs.Edges.{place-most}
 
@@ -38,7 +37,3 @@ period g t = both Three (g .heated) (lit< tt) (suc-le-suc (place-most (minus 50 
 pub conditions-in-range : (g : Group) (t : ℤ) → ConditionsInRange (conditionsAt g t)
 unfolding conditionsAt
 conditions-in-range g t = record { period = period g t; minutes = minutes g t .most }
-
-pub year-in-range : (g : Group) (ts : List ℤ) → YearInRange (conditionsOf g ts)
-unfolding conditionsOf
-year-in-range g ts m p = rw (listTo-at noConditions 12 (λ (m : ℕ). conditionsAt g (getD ts m (pos 0))) m p) (conditions-in-range g _)

@@ -1,74 +1,114 @@
 -- What inner functions compute: the rule's fractions as whole numbers of parts. The proofs show that they are the fractions of Rules.
 use Prim.Native.Nat.{ℕ, _+_, _*_, _<_, _≤_}
-use mathlib.Core.Path.{_≡_}
-use mathlib.Core.Bool.{true}
 use mathlib.Core.List.{List}
+use lib.Dec.{eqb}
 use lib.IntN.{ℤ, pos}
 use lib.ListN.{getD}
-use Rattle.sums.specs.Choice.{sumTo, listTo}
+use Rattle.sums.specs.Choice.{if_then_else, sumTo, listTo}
 use Rattle.sums.specs.Fraction.{partsOf}
 use Rattle.sums.specs.Figures.{annualOf, peakOf}
 use Rattle.sums.specs.declared.answer.Emission.{Emission}
-use Rattle.vehicles.specs.Fields.{noMinute, noKilometre, groupInRange, coefficientsInRange}
+use Rattle.vehicles.specs.Fields.{noMinute, noKilometre}
 use Rattle.vehicles.specs.Rules.{minutesAt, periodAt, controlOf, codeOf}
+use Rattle.vehicles.specs.declared.units.Minutes.{Minutes}
 use Rattle.vehicles.specs.declared.units.Metres.{Metres}
 use Rattle.vehicles.specs.declared.group.Distances.{Distances}
+use Rattle.vehicles.specs.declared.group.Neutraliser.{Neutraliser}
 use Rattle.vehicles.specs.declared.group.Group.{Group}
 use Rattle.vehicles.specs.declared.group.Coefficients.{Coefficients}
 use Rattle.vehicles.specs.declared.warmup.Conditions.{Conditions}
+use Rattle.vehicles.specs.declared.activity.Activity.{Activity}
 
--- what a temperature decides: the period whose coefficients count, and warm-up in tenths of a minute
+-- so many tenths of a minute, and so many metres
+abbrev pub tenths : ℕ → Minutes
+tenths n = record { 0 = n }
+
+abbrev pub metres : ℕ → Metres
+metres n = record { 0 = n }
+
+-- what a temperature decides: the period whose coefficients count, and warm-up
 unfoldable pub conditionsAt : Group → ℤ → Conditions
-conditionsAt g t = record { period = periodAt g t; minutes = record { 0 = partsOf 10 (minutesAt g t) } }
-
-unfoldable pub conditionsOf : Group → List ℤ → List Conditions
-conditionsOf g ts = listTo 12 (λ (m : ℕ). conditionsAt g (getD ts m (pos 0)))
-
-abbrev pub noConditions : Conditions
-noConditions = record { period = 0; minutes = record { 0 = 0 } }
+conditionsAt g t = record { period = periodAt g t; minutes = tenths (partsOf 10 (minutesAt g t)) }
 
 abbrev pub distanceSum : Distances → Metres
-distanceSum d = record { 0 = d .nearest .0 + d .farthest .0 }
+distanceSum d = metres (d .nearest .0 + d .farthest .0)
 
--- grams in 2,000,000,000ths, the control factor in percent
-unfoldable pub runAndIdleParts : Group → Coefficients → ℕ → ℕ → Distances → ℕ
-runAndIdleParts g k control period d =
-    getD (k .run) period noKilometre .0 * distanceSum d .0 * g .neutraliser .running
-    + 2 * (k .idle .0 * g .idle .0) * control * g .neutraliser .running
+-- out and in, on one day
+abbrev pub dayRun : Group → Metres
+dayRun g = metres (distanceSum (g .outward) .0 + distanceSum (g .inward) .0)
+
+abbrev pub dayIdle : Group → Minutes
+dayIdle g = tenths (2 * g .idle .0)
+
+-- in a month: its period, and over its days worked the warm-up, the run and the idling
+abbrev pub monthConditions : Group → List ℤ → ℕ → Conditions
+monthConditions g ts m = conditionsAt g (getD ts m (pos 0))
+
+abbrev pub monthPeriod : Group → List ℤ → ℕ → ℕ
+monthPeriod g ts m = monthConditions g ts m .period
+
+abbrev pub monthWarmup : Group → List ℤ → ℕ → ℕ
+monthWarmup g ts m = getD (g .days) m 0 * monthConditions g ts m .minutes .0
+
+abbrev pub monthRun : Group → ℕ → ℕ
+monthRun g m = getD (g .days) m 0 * dayRun g .0
+
+abbrev pub monthIdle : Group → ℕ → ℕ
+monthIdle g m = getD (g .days) m 0 * dayIdle g .0
+
+-- the sum of f over those of the first n months whose period is p
+unfoldable pub inPeriod : Group → List ℤ → (ℕ → ℕ) → ℕ → ℕ → ℕ
+inPeriod g ts f n p = sumTo n (λ (m : ℕ). if_then_else (eqb p (monthPeriod g ts m)) (f m) 0)
+
+-- the year
+unfoldable pub activityOf : Group → List ℤ → Activity
+activityOf g ts = record {
+  warmup = listTo 3 (λ (p : ℕ). tenths (inPeriod g ts (monthWarmup g ts) 12 p));
+  run = listTo 3 (λ (p : ℕ). metres (inPeriod g ts (monthRun g) 12 p));
+  idle = tenths (sumTo 12 (monthIdle g));
+}
+
+-- so much run and idling, and warm-up, after their percentages: grams in 2,000,000,000ths, the control factor in percent
+abbrev pub runAndIdleParts : Neutraliser → ℕ → ℕ → ℕ → ℕ
+runAndIdleParts n control run idle = run * n .running + 2 * idle * control * n .running
+
+unfoldable pub massParts : Neutraliser → ℕ → ℕ → ℕ → ℕ → ℕ
+massParts n control warmup run idle = 2 * warmup * control * n .warming + runAndIdleParts n control run idle
 
 unfoldable pub outParts : Group → Coefficients → ℕ → Conditions → ℕ
 outParts g k control w =
-    2 * (getD (k .warmup) (w .period) noMinute .0 * w .minutes .0) * control * g .neutraliser .warming
-    + runAndIdleParts g k control (w .period) (g .outward)
+    massParts (g .neutraliser) control (getD (k .warmup) (w .period) noMinute .0 * w .minutes .0)
+    (getD (k .run) (w .period) noKilometre .0 * distanceSum (g .outward) .0)
+    (k .idle .0 * g .idle .0)
 
-unfoldable pub dayParts : Group → Coefficients → ℕ → Conditions → ℕ
-dayParts g k control w = outParts g k control w + runAndIdleParts g k control (w .period) (g .inward)
+-- over the three periods
+abbrev pub warmupParts : Coefficients → Activity → ℕ
+warmupParts k a = sumTo 3 (λ (p : ℕ). getD (k .warmup) p noMinute .0 * getD (a .warmup) p (tenths 0) .0)
 
--- over the days worked in a month, and in the year
-abbrev pub monthParts : Group → Coefficients → ℕ → List Conditions → ℕ → ℕ
-monthParts g k control ws m = dayParts g k control (getD ws m noConditions) * getD (g .days) m 0
+abbrev pub runParts : Coefficients → Activity → ℕ
+runParts k a = sumTo 3 (λ (p : ℕ). getD (k .run) p noKilometre .0 * getD (a .run) p (metres 0) .0)
 
-unfoldable pub yearParts : Group → Coefficients → ℕ → List Conditions → ℕ
-yearParts g k control ws = sumTo 12 (monthParts g k control ws)
+unfoldable pub yearParts : Group → Coefficients → ℕ → Activity → ℕ
+yearParts g k control a = massParts (g .neutraliser) control (warmupParts k a) (runParts k a) (k .idle .0 * a .idle .0)
 
 -- one pollutant's emission, in exact units
-unfoldable pub emissionParts : Group → Coefficients → ℕ → List Conditions → Conditions → Emission
-emissionParts g k p ws coldest = record {
+unfoldable pub emissionParts : Group → Coefficients → ℕ → Activity → Conditions → Emission
+emissionParts g k p a coldest = record {
   code = codeOf (g .fuel) p;
-  annual = annualOf (yearParts g k (partsOf 100 (controlOf g p)) ws * g .share * g .vehicles * 100);
+  annual = annualOf (yearParts g k (partsOf 100 (controlOf g p)) a * g .share * g .vehicles * 100);
   peak = peakOf (outParts g k (partsOf 100 (controlOf g p)) coldest * g .leaving * 500);
 }
 
--- what a trip is worked out from is in range
-pub record TripInRange (g : Group) (k : Coefficients) (c n : ℕ) : Type 0 where
-  pub group : groupInRange g ≡ true
-  pub coefficients : coefficientsInRange k ≡ true
-  pub control : c ≤ 100
-  pub period : n < 3
+-- how large they are at most: a year's minutes and metres over all three periods
+pub record NeutraliserInRange (n : Neutraliser) : Type 0 where
+  pub running : n .running ≤ 100
+  pub warming : n .warming ≤ 100
 
 pub record ConditionsInRange (w : Conditions) : Type 0 where
   pub period : w .period < 3
   pub minutes : w .minutes .0 ≤ 300
 
-abbrev pub YearInRange : List Conditions → Type 0
-YearInRange ws = (m : ℕ) → m < 12 → ConditionsInRange (getD ws m noConditions)
+pub record ActivityInRange (a : Activity) : Type 0 where
+  pub warmup : sumTo 3 (λ (p : ℕ). getD (a .warmup) p (tenths 0) .0) ≤ 111600
+  pub run : sumTo 3 (λ (p : ℕ). getD (a .run) p (metres 0) .0) ≤ 29760000
+  pub idle : a .idle .0 ≤ 186000

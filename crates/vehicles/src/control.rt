@@ -4,11 +4,12 @@ ghost use Prim.Native.Nat.{_<_};
 ghost use Rattle.sums.specs.Fraction.{partsOf};
 ghost use Rattle.vehicles.specs.Rules.{controlOf};
 use super::group::Group;
+use super::units;
 
 // Percents, in the pollutants' order.
-const PETROL: [u64; 6] = [80, 90, 100, 100, 95, 95];
+const PETROL: [u8; 6] = [80, 90, 100, 100, 95, 95];
 
-const DIESEL: [u64; 6] = [90, 90, 100, 80, 95, 100];
+const DIESEL: [u8; 6] = [90, 90, 100, 80, 95, 100];
 
 pub(crate) fn control_of(g: Group, place: usize) -> u64
     requires { ⌜ place < 6 ⌝ }
@@ -16,9 +17,9 @@ pub(crate) fn control_of(g: Group, place: usize) -> u64
 {
     if g.controlled {
         if g.fuel == 1 {
-            PETROL[place]
+            units::wide8(PETROL[place])
         } else {
-            DIESEL[place]
+            units::wide8(DIESEL[place])
         }
     } else {
         100

@@ -1,4 +1,5 @@
 // The source rule of vehicle groups.
+mod activity;
 mod control;
 pub mod group;
 pub mod rule;

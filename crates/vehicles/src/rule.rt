@@ -5,7 +5,9 @@ ghost use Prim.Native.Nat.{_*_, _<_, _≤_};
 ghost use Rattle.sums.specs.Figures.{annualOf, peakOf};
 ghost use Rattle.vehicles.specs.Fields.{groupInRange, coefficientsInRange, allInRange};
 ghost use Rattle.vehicles.specs.Rules.{codeOf, emissionsOf, inRange, notZero, refused, groupAnswer};
-ghost use Rattle.vehicles.specs.Parts.{dayParts, yearParts, emissionParts, TripInRange, ConditionsInRange, YearInRange};
+ghost use Rattle.vehicles.specs.Parts.{ConditionsInRange, ActivityInRange, yearParts, emissionParts};
+use super::activity;
+use super::activity::Activity;
 use super::control;
 use super::group;
 use super::group::Coefficients;
@@ -25,28 +27,21 @@ pub struct GroupAnswer {
     pub emissions: [Emission; 6],
 }
 
-// A day's trips of one vehicle, in 2,000,000,000ths of a gram.
-fn day_of(g: Group, k: Coefficients, control: u64, w: Conditions) -> u64
-    requires { ⌜ TripInRange g k control (w .period) × (w .minutes .0 ≤ 300) ⌝ }
-    ensures { λ r. ⌜ (r ≡ dayParts g k control w) × (r ≤ 24000000000000) ⌝ }
+// A year of one vehicle, in 2,000,000,000ths of a gram.
+fn year_of(g: Group, k: Coefficients, control: u64, a: Activity) -> u64
+    requires { ⌜ (groupInRange g ≡ true) × (coefficientsInRange k ≡ true) × (control ≤ 100) × ActivityInRange a ⌝ }
+    ensures { λ r. ⌜ r ≡ yearParts g k control a ⌝ }
 {
-    let d = g.inward;
-    trip::out_of(g, k, control, w) + trip::run_and_idle(g, k, control, w.period, d)
-}
-
-// The same over the days worked in the year.
-fn year_of(g: Group, k: Coefficients, control: u64, months: [Conditions; 12]) -> u64
-    requires { ⌜ (groupInRange g ≡ true) × (coefficientsInRange k ≡ true) × (control ≤ 100) × YearInRange months ⌝ }
-    ensures { λ r. ⌜ (r ≡ yearParts g k control months) × (r ≤ 8928000000000000) ⌝ }
-{
-    let days = g.days;
-    let mut total = 0;
-    let mut i = 0;
-    while i < 12 {
-        total += day_of(g, k, control, months[i]) * units::wide8(days[i]);
-        i += 1;
-    }
-    total
+    let idle = k.idle;
+    let t = a.idle;
+    let n = g.neutraliser;
+    trip::mass_of(
+        n,
+        control,
+        activity::warmup_of(k, a),
+        activity::run_of(k, a),
+        idle.over(t),
+    )
 }
 
 // 2,000,000,000ths of a gram times a percentage are 200,000,000,000,000,000ths of a tonne, 100 exact units each.
@@ -54,9 +49,7 @@ fn annual_of(g: Group, year: u64) -> AnnualSum
     requires { ⌜ (groupInRange g ≡ true) × (year ≤ 8928000000000000) ⌝ }
     ensures { λ r. ⌜ r ≡ annualOf (year * g .share * g .vehicles * 100) ⌝ }
 {
-    AnnualSum::of(year * units::wide8(g.share))
-        .times(g.vehicles)
-        .times(100)
+    AnnualSum::of(year * units::wide8(g.share) * 20).times(5 * g.vehicles)
 }
 
 // 2,000,000,000ths of a gram over 3,600 seconds are 7,200,000,000,000ths of a gram per second, 500 exact units each.
@@ -82,21 +75,21 @@ fn code_of(fuel: u8, place: usize) -> u16
     }
 }
 
-// The emission of the pollutant at a place, from the months' conditions and the coldest month's.
+// The emission of the pollutant at a place, from the year's activity and the coldest month's conditions.
 fn emission_of(
     g: Group,
     k: Coefficients,
     place: usize,
-    months: [Conditions; 12],
+    a: Activity,
     coldest: Conditions,
 ) -> Emission
-    requires { ⌜ (groupInRange g ≡ true) × (coefficientsInRange k ≡ true) × (place < 6) × YearInRange months × ConditionsInRange coldest ⌝ }
-    ensures { λ r. ⌜ r ≡ emissionParts g k place months coldest ⌝ }
+    requires { ⌜ (groupInRange g ≡ true) × (coefficientsInRange k ≡ true) × (place < 6) × ActivityInRange a × ConditionsInRange coldest ⌝ }
+    ensures { λ r. ⌜ r ≡ emissionParts g k place a coldest ⌝ }
 {
     let control = control::control_of(g, place);
     Emission {
         code: code_of(g.fuel, place),
-        annual: annual_of(g, year_of(g, k, control, months)),
+        annual: annual_of(g, year_of(g, k, control, a)),
         peak: peak_of(g, trip::out_of(g, k, control, coldest)),
     }
 }
@@ -105,12 +98,12 @@ fn emissions_of(g: Group, ts: [i16; 12], ks: [Coefficients; 6]) -> [Emission; 6]
     requires { ⌜ (groupInRange g ≡ true) × (allInRange ks ≡ true) ⌝ }
     ensures { λ r. ⌜ r ≡ emissionsOf g ts ks ⌝ }
 {
-    let months = warmup::conditions_of(g, ts);
+    let a = activity::activity_of(g, ts);
     let coldest = warmup::conditions_at(g, temperature::lowest(ts));
     let mut emissions = [Emission::none(); 6];
     let mut p = 0;
     while p < 6 {
-        emissions[p] = emission_of(g, ks[p], p, months, coldest);
+        emissions[p] = emission_of(g, ks[p], p, a, coldest);
         p += 1;
     }
     emissions

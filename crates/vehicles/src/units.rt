@@ -1,6 +1,6 @@
 // Units that multiply only with their own: coefficients per minute with minutes, per kilometre with metres.
 ghost use mathlib.Core.Path.{_≡_};
-ghost use Prim.Native.Nat.{_*_, _<_};
+ghost use Prim.Native.Nat.{_+_, _*_, _<_, _≤_};
 
 // Coefficients, in ten-thousandths of a gram.
 pub struct PerMinute(pub u32);
@@ -16,6 +16,38 @@ fn product(a: u32, b: u32) -> u64
     ensures { λ r. ⌜ r ≡ a * b ⌝ }
 {
     (a as u64) * (b as u64)
+}
+
+// n times x more.
+fn more(total: u32, n: u8, x: u32) -> u32
+    requires { ⌜ (total ≤ 1000000000) × (x ≤ 80000) ⌝ }
+    ensures { λ r. ⌜ r ≡ total + n * x ⌝ }
+{
+    total + (n as u32) * x
+}
+
+impl Minutes {
+    pub(crate) fn of(tenths: u16) -> Minutes
+        ensures { λ r. ⌜ r .0 ≡ tenths ⌝ }
+    {
+        Minutes(tenths as u32)
+    }
+
+    pub(crate) fn plus(self, n: u8, t: Minutes) -> Minutes
+        requires { ⌜ (self .0 ≤ 1000000000) × (t .0 ≤ 80000) ⌝ }
+        ensures { λ r. ⌜ r .0 ≡ self .0 + n * t .0 ⌝ }
+    {
+        Minutes(more(self.0, n, t.0))
+    }
+}
+
+impl Metres {
+    pub(crate) fn plus(self, n: u8, d: Metres) -> Metres
+        requires { ⌜ (self .0 ≤ 1000000000) × (d .0 ≤ 80000) ⌝ }
+        ensures { λ r. ⌜ r .0 ≡ self .0 + n * d .0 ⌝ }
+    {
+        Metres(more(self.0, n, d.0))
+    }
 }
 
 impl PerMinute {

@@ -3,7 +3,7 @@ ghost use mathlib.Core.Path.{_≡_};
 ghost use Prim.Native.Nat.{_<_};
 ghost use Rattle.sums.specs.Fraction.{partsOf};
 ghost use Rattle.vehicles.specs.Rules.{tableMinutes, minutesAt, periodAt};
-ghost use Rattle.vehicles.specs.Parts.{conditionsAt, conditionsOf};
+ghost use Rattle.vehicles.specs.Parts.{ConditionsInRange, conditionsAt};
 use super::group::Group;
 use super::temperature;
 use super::units::Minutes;
@@ -15,11 +15,11 @@ pub struct Conditions {
 }
 
 // Tenths of a minute, by the bands of temperature from the warmest.
-const CAR: [u32; 7] = [30, 40, 100, 150, 150, 200, 200];
+const CAR: [u16; 7] = [30, 40, 100, 150, 150, 200, 200];
 
-const TRUCK: [u32; 7] = [40, 60, 120, 200, 250, 300, 300];
+const TRUCK: [u16; 7] = [40, 60, 120, 200, 250, 300, 300];
 
-fn table_minutes(category: u8, t: i16) -> u32
+fn table_minutes(category: u8, t: i16) -> u16
     ensures { λ r. ⌜ r ≡ partsOf 10 (tableMinutes category t) ⌝ }
 {
     let band = temperature::warmup_band(t);
@@ -30,7 +30,7 @@ fn table_minutes(category: u8, t: i16) -> u32
     }
 }
 
-fn minutes_at(g: Group, t: i16) -> u32
+fn minutes_at(g: Group, t: i16) -> u16
     ensures { λ r. ⌜ r ≡ partsOf 10 (minutesAt g t) ⌝ }
 {
     if g.heated {
@@ -47,27 +47,10 @@ fn period_at(g: Group, t: i16) -> usize
 }
 
 pub(crate) fn conditions_at(g: Group, t: i16) -> Conditions
-    ensures { λ r. ⌜ r ≡ conditionsAt g t ⌝ }
+    ensures { λ r. ⌜ (r ≡ conditionsAt g t) × ConditionsInRange r ⌝ }
 {
     Conditions {
         period: period_at(g, t),
-        minutes: Minutes(minutes_at(g, t)),
+        minutes: Minutes::of(minutes_at(g, t)),
     }
-}
-
-// Month by month.
-pub(crate) fn conditions_of(g: Group, ts: [i16; 12]) -> [Conditions; 12]
-    ensures { λ r. ⌜ r ≡ conditionsOf g ts ⌝ }
-{
-    let none = Conditions {
-        period: 0,
-        minutes: Minutes(0),
-    };
-    let mut months = [none; 12];
-    let mut i = 0;
-    while i < 12 {
-        months[i] = conditions_at(g, ts[i]);
-        i += 1;
-    }
-    months
 }

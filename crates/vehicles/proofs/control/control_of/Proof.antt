@@ -15,9 +15,9 @@ control-of-spec =
     tie.close
     (tie.spec (search needs) (search needs) (search needs) (search needs)
     (λ c.
-    scaled-at 100 petrolControl (c .before .before .before .args .place)
-    ∙ ap (partsOf 100) (yes _ _ _ _ (c .before .before .if1 .taken) (yes _ _ _ _ (eq-eqb _ 1 (c .if2 .taken)) refl)))
+    c .wide8 .ensures .0 ∙ scaled-at 100 petrolControl (c .before .before .before .before .args .place)
+    ∙ ap (partsOf 100) (yes _ _ _ _ (c .before .before .before .if1 .taken) (yes _ _ _ _ (eq-eqb _ 1 (c .before .if2 .taken)) refl)))
     (λ c.
-    scaled-at 100 dieselControl (c .before .before .before .args .place)
-    ∙ ap (partsOf 100) (yes _ _ _ _ (c .before .before .if1 .taken) (no _ _ _ _ (ne-eqb _ 1 (c .if2 .left)) refl)))
+    c .wide82 .ensures .0 ∙ scaled-at 100 dieselControl (c .before .before .before .before .args .place)
+    ∙ ap (partsOf 100) (yes _ _ _ _ (c .before .before .before .if1 .taken) (no _ _ _ _ (ne-eqb _ 1 (c .before .if2 .left)) refl)))
     (λ c. ap (partsOf 100) (no _ _ _ _ (c .if1 .left) refl)))

@@ -1,9 +1,11 @@
--- One product that fits, then the multiples.
+-- One product that fits, then the multiple.
 use borrow.Author.Needs.{needs}
-use mathlib.Core.Path.{_∙_}
+use native.Mathlib.Nat.{le-refl}
+use native.Mathlib.Omega.{arith}
+use mathlib.Core.Path.{ap, _∙_}
 use lib.Dec.{lit<}
 use mir.Facts.{fits-below}
-use Rattle.sums.specs.Figures.{annualDenominator}
+use Rattle.sums.specs.Figures.{annualDenominator, annualOf}
 use Rattle.sums.proofs.Products.{_⊗_}
 use Rattle.sums.proofs.Wrapping.{mixed-times}
 use Rattle.vehicles.proofs.Ranges.{ranged}
@@ -15,8 +17,10 @@ annual-of-spec =
     tie.close
     (tie.spec (search needs)
     (λ c. rw (c .wide8 .ensures .0) (fits-below tt (c .before .pre .1 ⊗ ranged (c .before .args .g) (c .before .pre .0) .share)))
-    (search needs) (search needs) (search needs)
+    (λ c. rw (c .wide8 .ensures .0) (fits-below tt (c .before .pre .1 ⊗ ranged (c .before .args .g) (c .before .pre .0) .share ⊗ le-refl 20)))
+    (search needs)
+    (λ c. let p = c .before .before .before in let v = ranged (p .args .g) (p .pre .0) .vehicles in omega arith)
+    (search needs)
     (λ c.
-    let turn = mixed-times annualDenominator (lit< tt) in
-    let first = rw (c .before .before .of .ensures, turn, c .before .before .before .wide8 .ensures .0) at (c .before .times .ensures) in
-    c .times2 .ensures ∙ rw (first, turn)))
+    c .times .ensures
+    ∙ rw (c .before .before .of .ensures, mixed-times annualDenominator (lit< tt), c .before .before .before .wide8 .ensures .0) (ap annualOf (omega arith))))

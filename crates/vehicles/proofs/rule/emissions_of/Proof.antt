@@ -12,18 +12,18 @@ use Rattle.vehicles.specs.Fields.{noCoefficients}
 use Rattle.vehicles.specs.Rules.{emissionOf, emissionsOf}
 use Rattle.vehicles.specs.Parts.{emissionParts}
 use Rattle.vehicles.proofs.Ranges.{of-six}
-use Rattle.vehicles.proofs.Scales.{conditions-in-range, year-in-range}
+use Rattle.vehicles.proofs.Periods.{activity-in-range}
 use Rattle.vehicles.proofs.Paper.{emission}
 use Rattle.vehicles.proofs.rule.emissions_of.Statement.{statement}
 use Rattle.vehicles.proofs.rule.emissions_of.Tie as tie
 
 abbrev Inv-loop : tie.InvT-loop
-Inv-loop g ks months coldest emissions₀ p₀ emissions p =
+Inv-loop g ks a coldest emissions₀ p₀ emissions p =
     (p ≤ 6) × (length emissions ≡ 6)
-    × ((m : ℕ) → m < p → getD emissions m noEmission ≡ emissionParts g (getD ks m noCoefficients) m months coldest)
+    × ((m : ℕ) → m < p → getD emissions m noEmission ≡ emissionParts g (getD ks m noCoefficients) m a coldest)
 
 abbrev μ-loop : tie.MeasureT-loop
-μ-loop g ks months coldest emissions₀ p₀ emissions p = 6 - p
+μ-loop g ks a coldest emissions₀ p₀ emissions p = 6 - p
 
 loop-holds : tie.Need-loop-holds Inv-loop μ-loop
 loop-holds c = (search needs, search needs, λ m q. absurd (omega arith))
@@ -35,8 +35,8 @@ emission-of-requires c κs =
       s .pre .0,
       of-six (s .args .t3) (s .pre .1) (b .loop .p) (search needs),
       search needs,
-      rw (b .before .before .before .before .conditions-of .ensures) (year-in-range (s .args .g) _),
-      rw (b .before .before .conditions-at .ensures) (conditions-in-range (s .args .g) _),
+      rw (b .before .before .before .before .activity-of .ensures) (activity-in-range (s .args .g) _ (s .pre .0)),
+      b .before .before .conditions-at .ensures .1,
     )
 
 loop-again : tie.Need-loop-again Inv-loop μ-loop
@@ -46,7 +46,7 @@ loop-again c =
       search needs,
       search needs,
       filled noEmission (b .loop .emissions) (b .loop .p) (c .emission-of .result)
-          (λ (m : ℕ). emissionParts (s .g) (getD (s .t3) m noCoefficients) m (b .before .before .before .before .conditions-of .result) (b .before .before .conditions-at .result))
+          (λ (m : ℕ). emissionParts (s .g) (getD (s .t3) m noCoefficients) m (b .before .before .before .before .activity-of .result) (b .before .before .conditions-at .result))
           (search needs) (b .loop .inv .2) (c .emission-of .ensures),
     )
 
@@ -60,11 +60,11 @@ returns c =
     listTo-is noEmission 6 (b .loop .emissions) (λ (m : ℕ). emissionOf (s .g) (s .ts) (getD (s .t3) m noCoefficients) m) (b .loop .inv .1)
     (λ m q.
     (rw e at (b .loop .inv .2)) m q
-    ∙ rw (b .before .before .before .before .conditions-of .ensures, b .before .before .conditions-at .ensures, x, b .before .before .before .lowest .ensures)
+    ∙ rw (b .before .before .before .before .activity-of .ensures, b .before .before .conditions-at .ensures .0, x, b .before .before .before .lowest .ensures)
     (emission (s .g) (s .ts) (getD (s .t3) m noCoefficients) m))
 
 pub emissions-of-spec : {M : Type 1} → statement M
 emissions-of-spec =
     tie.close
-    (tie.spec Inv-loop μ-loop (search needs) (search needs) (search needs) (search needs) loop-holds (search needs) (search needs) emission-of-requires
+    (tie.spec Inv-loop μ-loop (λ c κs. c .pre .0) (search needs) (search needs) (search needs) loop-holds (search needs) (search needs) emission-of-requires
     (search needs) (search needs) (search needs) (search needs) loop-again returns)

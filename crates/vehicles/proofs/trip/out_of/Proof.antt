@@ -1,31 +1,41 @@
--- What is in range has the bounds that the product asks; the calls together are the definition.
+-- What is in range has the bounds that the mass asks; the calls together are the definition.
 use borrow.Author.Needs.{needs}
 use native.Mathlib.Omega.{arith}
 use Rattle.sums.proofs.Products.{_⊗_}
 use Rattle.vehicles.specs.Parts.{outParts}
-use Rattle.vehicles.proofs.Ranges.{ranged, warmup}
+use Rattle.vehicles.proofs.Ranges.{ranged, warmup, run, idle, twice}
 use Rattle.vehicles.proofs.trip.out_of.Statement.{statement}
 use Rattle.vehicles.proofs.trip.out_of.Tie as tie
 
-warmup-mass-requires : tie.Need-warmup-mass-requires
-warmup-mass-requires c κs =
-    let b = c .before .before .before .before .before .before in
+mass-of-requires : tie.Need-mass-of-requires
+mass-of-requires c κs =
+    let b = c .before .before .before .before .before .before .before .before .before .before .before .before .before in
     let s = b .args in
-    let w = b .pre .0 in (
-      rw (c .before .over .ensures) (warmup (s .k) (w .coefficients) (s .w .period) (w .period) ⊗ b .pre .1),
-      w .control,
-      rw (c .wide8 .ensures .0) (ranged (s .g) (w .group) .warming),
+    let k = b .pre .1 in
+    let w = b .pre .3 in
+    let g = ranged (s .g) (b .pre .0) in (
+      g .neutraliser,
+      b .pre .2,
+      rw (c .before .before .before .over .ensures) (omega (arith, warmup (s .k) k (s .w .period) (w .period) ⊗ w .minutes)),
+      rw (c .before .over2 .ensures, c .before .before .distance-sum .ensures)
+          (omega (arith, run (s .k) k (s .w .period) (w .period) ⊗ twice (s .g .outward) (g .outward))),
+      rw (c .over3 .ensures) (omega (arith, idle (s .k) k ⊗ g .idle)),
     )
-
-run-and-idle-requires : tie.Need-run-and-idle-requires
-run-and-idle-requires c κs = let b = c .before .before .before .before .before .before .before in (b .pre .0, ranged (b .args .g) (b .pre .0 .group) .outward)
 
 returns : tie.Need-returns
 unfolding outParts
-returns c = (
-  rw (c .run-and-idle .ensures .0, c .before .warmup-mass .ensures .0, c .before .before .wide8 .ensures .0, c .before .before .before .over .ensures),
-  omega arith,
-)
+returns c =
+    rw (
+      c .mass-of .ensures,
+      c .before .over3 .ensures,
+      c .before .before .over2 .ensures,
+      c .before .before .before .distance-sum .ensures,
+      c .before .before .before .before .over .ensures,
+    )
 
 pub out-of-spec : {M : Type 1} → statement M
-out-of-spec = tie.close (tie.spec (search needs) (search needs) (search needs) (search needs) warmup-mass-requires run-and-idle-requires (search needs) returns)
+out-of-spec =
+    tie.close
+    (tie.spec (search needs) (search needs) (search needs) (search needs) (search needs)
+    (λ c κs. let b = c .before .before .before .before .before .before .before .before .before .before in ranged (b .args .g) (b .pre .0) .outward)
+    (search needs) (search needs) mass-of-requires returns)

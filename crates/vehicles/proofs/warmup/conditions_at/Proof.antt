@@ -1,7 +1,9 @@
--- Its period and its minutes.
+-- Its period and its minutes, which are in range at any temperature.
 use borrow.Author.Needs.{needs}
+use mathlib.Core.Path.{_≡_}
 use mir.Facts.{toZ-ofZ}
 use Rattle.vehicles.specs.Parts.{conditionsAt}
+use Rattle.vehicles.proofs.Scales.{conditions-in-range}
 use Rattle.vehicles.proofs.warmup.conditions_at.Statement.{statement}
 use Rattle.vehicles.proofs.warmup.conditions_at.Tie as tie
 
@@ -9,7 +11,10 @@ pub conditions-at-spec : {M : Type 1} → statement M
 unfolding conditionsAt
 conditions-at-spec =
     tie.close
-    (tie.spec (search needs) (search needs)
+    (tie.spec (search needs) (search needs) (search needs)
     (λ c.
-    let t = toZ-ofZ (c .before .before .fits .t) in
-    rw (simp t at (c .before .period-at .ensures), simp t at (c .minutes-at .ensures))))
+    let s = c .before .before .before in
+    let t = toZ-ofZ (s .fits .t) in
+    let p = simp t at (c .before .before .period-at .ensures) in
+    let m = simp t at (c .before .minutes-at .ensures) in
+    (rw (p, c .of .ensures, m), rw (p, c .of .ensures, m) (conditions-in-range (s .args .g) (s .args .t)))))

@@ -1,0 +1,20 @@
+-- The three products, whose sum is in range.
+use borrow.Author.Needs.{needs}
+use native.Mathlib.Omega.{arith}
+use Rattle.sums.specs.Choice.{sumTo}
+use Rattle.vehicles.proofs.Periods.{run-parts}
+use Rattle.vehicles.proofs.activity.run_of.Statement.{statement}
+use Rattle.vehicles.proofs.activity.run_of.Tie as tie
+
+pub run-of-spec : {M : Type 1} → statement M
+unfolding sumTo
+run-of-spec =
+    tie.close
+    (tie.spec (search needs) (search needs) (search needs) (search needs) (search needs) (search needs) (search needs) (search needs) (search needs)
+    (λ c κs.
+    let b = c .before .before .before .before .before .before .before .before .before .before .before in
+    rw (c .over3 .ensures, c .before .before .before .over2 .ensures, c .before .before .before .before .before .before .over .ensures)
+    (omega (arith, run-parts (b .args .k) (b .args .a) (b .pre .0) (b .pre .1))))
+    (λ c.
+    let b = c .before in
+    rw (c .total .ensures, b .over3 .ensures, b .before .before .before .over2 .ensures, b .before .before .before .before .before .before .over .ensures) (omega arith)))

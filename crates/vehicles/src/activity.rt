@@ -1,0 +1,91 @@
+// What one vehicle of a group does in a year. Only the coefficients' period and the warm-up depend on the month, so the months of a period are one sum.
+ghost use mathlib.Core.Path.{_≡_};
+ghost use mathlib.Core.Bool.{true};
+ghost use Prim.Native.Nat.{_+_, _≤_};
+ghost use Rattle.vehicles.specs.Fields.{groupInRange, coefficientsInRange};
+ghost use Rattle.vehicles.specs.Parts.{ActivityInRange, activityOf, dayRun, dayIdle, warmupParts, runParts};
+use super::group::Coefficients;
+use super::group::Group;
+use super::trip;
+use super::units::Metres;
+use super::units::Minutes;
+use super::warmup;
+
+// Warm-up and run in the warm, transitional and cold period, and idling: what a pollutant's coefficients are multiplied by. The metres are those of the
+// nearest and of the farthest place together, twice their mean.
+pub struct Activity {
+    pub warmup: [Minutes; 3],
+    pub run: [Metres; 3],
+    pub idle: Minutes,
+}
+
+// Out and in, on one day.
+fn day_run(g: Group) -> Metres
+    requires { ⌜ groupInRange g ≡ true ⌝ }
+    ensures { λ r. ⌜ r ≡ dayRun g ⌝ }
+{
+    let outward = g.outward;
+    let inward = g.inward;
+    Metres(trip::distance_sum(outward).0 + trip::distance_sum(inward).0)
+}
+
+fn day_idle(g: Group) -> Minutes
+    requires { ⌜ g .idle .0 ≤ 250 ⌝ }
+    ensures { λ r. ⌜ r ≡ dayIdle g ⌝ }
+{
+    Minutes(2 * g.idle.0)
+}
+
+pub(crate) fn activity_of(g: Group, ts: [i16; 12]) -> Activity
+    requires { ⌜ groupInRange g ≡ true ⌝ }
+    ensures { λ r. ⌜ r ≡ activityOf g ts ⌝ }
+{
+    let days = g.days;
+    let run = day_run(g);
+    let idle = day_idle(g);
+    let mut minutes = [Minutes(0); 3];
+    let mut metres = [Metres(0); 3];
+    let mut idling = Minutes(0);
+    let mut i = 0;
+    while i < 12 {
+        let w = warmup::conditions_at(g, ts[i]);
+        let period = w.period;
+        let t = w.minutes;
+        minutes[period] = minutes[period].plus(days[i], t);
+        metres[period] = metres[period].plus(days[i], run);
+        idling = idling.plus(days[i], idle);
+        i += 1;
+    }
+    Activity {
+        warmup: minutes,
+        run: metres,
+        idle: idling,
+    }
+}
+
+// Of the three periods.
+fn total(x: u64, y: u64, z: u64) -> u64
+    requires { ⌜ x + y + z ≤ 29760000000000 ⌝ }
+    ensures { λ r. ⌜ r ≡ x + y + z ⌝ }
+{
+    x + y + z
+}
+
+// A year's warm-up and run, before their percentages.
+pub(crate) fn warmup_of(k: Coefficients, a: Activity) -> u64
+    requires { ⌜ (coefficientsInRange k ≡ true) × ActivityInRange a ⌝ }
+    ensures { λ r. ⌜ r ≡ warmupParts k a ⌝ }
+{
+    let w = k.warmup;
+    let t = a.warmup;
+    total(w[0].over(t[0]), w[1].over(t[1]), w[2].over(t[2]))
+}
+
+pub(crate) fn run_of(k: Coefficients, a: Activity) -> u64
+    requires { ⌜ (coefficientsInRange k ≡ true) × ActivityInRange a ⌝ }
+    ensures { λ r. ⌜ r ≡ runParts k a ⌝ }
+{
+    let r = k.run;
+    let d = a.run;
+    total(r[0].over(d[0]), r[1].over(d[1]), r[2].over(d[2]))
+}
