@@ -1,0 +1,64 @@
+// Answers as numbers, and numbers in the caller's memory.
+ghost use mathlib.Core.Path.{_≡_};
+ghost use Prim.Native.Nat.{_+_, _≤_};
+ghost use lib.Dec.{leb};
+ghost use lib.ListN.{length};
+ghost use lib.Seq.{sets};
+ghost use Rattle.tezhebul.specs.Numbers.{numbersOf, into};
+use slot_file::Answer;
+
+// Numbers from a place of a buffer on, which has room for them.
+fn put_numbers(numbers: &[u64], out: &mut [u64], from: usize)
+    requires { ⌜ from + length (now numbers) ≤ length (now out) ⌝ }
+    ensures { λ _. ⌜ now (out .exit) ≡ sets (now (out .entry)) from (now (numbers .entry)) ⌝ }
+{
+    let mut i = 0;
+    while i < numbers.len() {
+        out[from + i] = numbers[i];
+        i += 1;
+    }
+}
+
+// Numbers at the start of `out`; false, and nothing written, where it has room for fewer.
+pub(crate) fn give(numbers: &[u64], out: &mut [u64]) -> bool
+    ensures { λ r. ⌜ (r ≡ leb (length (now (numbers .entry))) (length (now (out .entry)))) × (now (out .exit) ≡ into (now (numbers .entry)) (now (out .entry))) ⌝ }
+{
+    if out.len() < numbers.len() {
+        return false;
+    }
+    put_numbers(numbers, out, 0);
+    true
+}
+
+pub(crate) fn numbers_of(a: Answer) -> [u64; 24]
+    ensures { λ r. ⌜ r ≡ numbersOf a ⌝ }
+{
+    let x = a.annual;
+    let y = a.peak;
+    [
+        a.number as u64,
+        a.slot as u64,
+        a.groups as u64,
+        a.stores as u64,
+        x[0],
+        x[1],
+        x[2],
+        x[3],
+        x[4],
+        x[5],
+        x[6],
+        x[7],
+        x[8],
+        x[9],
+        y[0],
+        y[1],
+        y[2],
+        y[3],
+        y[4],
+        y[5],
+        y[6],
+        y[7],
+        y[8],
+        y[9],
+    ]
+}
