@@ -4,8 +4,10 @@ ghost use Prim.Native.Nat.{_+_, _≤_};
 ghost use lib.Dec.{leb};
 ghost use lib.ListN.{length};
 ghost use lib.Seq.{sets};
-ghost use Rattle.tezhebul.specs.Numbers.{numbersOf, into};
+ghost use Rattle.tezhebul.specs.Numbers.{numbersOf, emissionNumbers, storeNumbers, into};
 use slot_file::Answer;
+use stores::StoreAnswer;
+use sums::Emission;
 
 // Numbers from a place of a buffer on, which has room for them.
 fn put_numbers(numbers: &[u64], out: &mut [u64], from: usize)
@@ -60,5 +62,35 @@ pub(crate) fn numbers_of(a: Answer) -> [u64; 24]
         y[7],
         y[8],
         y[9],
+    ]
+}
+
+fn emission_numbers(e: Emission) -> [u64; 5]
+    ensures { λ r. ⌜ r ≡ emissionNumbers e ⌝ }
+{
+    let annual = e.annual.0;
+    let peak = e.peak.0;
+    [
+        e.code as u64,
+        annual.whole,
+        annual.part,
+        peak.whole,
+        peak.part,
+    ]
+}
+
+pub(crate) fn store_numbers(a: StoreAnswer) -> [u64; 7]
+    ensures { λ r. ⌜ r ≡ storeNumbers a ⌝ }
+{
+    let e = a.emission;
+    let x = emission_numbers(e);
+    [
+        a.verdict.number as u64,
+        a.verdict.slot as u64,
+        x[0],
+        x[1],
+        x[2],
+        x[3],
+        x[4],
     ]
 }
