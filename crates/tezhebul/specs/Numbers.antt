@@ -7,6 +7,7 @@ use Rattle.sums.specs.Choice.{if_then_else, listTo}
 use Rattle.sums.specs.declared.answer.Verdict.{Verdict}
 use Rattle.sums.specs.declared.answer.Emission.{Emission}
 use Rattle.stores.specs.declared.rules.StoreAnswer.{StoreAnswer}
+use Rattle.vehicles.specs.declared.rule.GroupAnswer.{GroupAnswer}
 use Rattle.slot_file.specs.declared.Answer.{Answer}
 
 -- a number and a slot in one
@@ -26,6 +27,18 @@ into l buffer = if_then_else (leb (length l) (length buffer)) (l ++ drop (length
 abbrev pub emissionNumbers : Emission → List ℕ
 emissionNumbers e = e .code ∷ e .annual .0 .whole ∷ e .annual .0 .part ∷ e .peak .0 .whole ∷ e .peak .0 .part ∷ []
 
--- a store rule's answer: number, slot, what the record gives to the code of its dust
+-- emissions, one after the other
+abbrev pub emissionsNumbers : List Emission → List ℕ
+emissionsNumbers [] = []
+emissionsNumbers (e ∷ es) = emissionNumbers e ++ emissionsNumbers es
+
+-- a rule's answer: number, slot, what the source gives
+abbrev pub ruleNumbers : Verdict → List Emission → List ℕ
+ruleNumbers v es = v .number ∷ v .slot ∷ emissionsNumbers es
+
+-- a store record gives to the code of its dust alone, a group of each of the six pollutants
 abbrev pub storeNumbers : StoreAnswer → List ℕ
-storeNumbers a = a .verdict .number ∷ a .verdict .slot ∷ emissionNumbers (a .emission)
+storeNumbers a = ruleNumbers (a .verdict) (a .emission ∷ [])
+
+abbrev pub groupNumbers : GroupAnswer → List ℕ
+groupNumbers a = ruleNumbers (a .verdict) (a .emissions)

@@ -4,10 +4,11 @@ ghost use Prim.Native.Nat.{_+_, _≤_};
 ghost use lib.Dec.{leb};
 ghost use lib.ListN.{length};
 ghost use lib.Seq.{sets};
-ghost use Rattle.tezhebul.specs.Numbers.{numbersOf, emissionNumbers, storeNumbers, into};
+ghost use Rattle.tezhebul.specs.Numbers.{numbersOf, emissionNumbers, ruleNumbers, storeNumbers, into};
 use slot_file::Answer;
 use stores::StoreAnswer;
 use sums::Emission;
+use sums::Verdict;
 
 // Numbers from a place of a buffer on, which has room for them.
 fn put_numbers(numbers: &[u64], out: &mut [u64], from: usize)
@@ -93,4 +94,20 @@ pub(crate) fn store_numbers(a: StoreAnswer) -> [u64; 7]
         x[3],
         x[4],
     ]
+}
+
+pub(crate) fn group_numbers(v: Verdict, es: [Emission; 6]) -> [u64; 32]
+    ensures { λ r. ⌜ r ≡ ruleNumbers v es ⌝ }
+{
+    let mut numbers = [0; 32];
+    numbers[0] = v.number as u64;
+    numbers[1] = v.slot as u64;
+    let mut p = 0;
+    while p < 6 {
+        let e = es[p];
+        let x = emission_numbers(e);
+        put_numbers(&x, &mut numbers, 2 + 5 * p);
+        p += 1;
+    }
+    numbers
 }
