@@ -1,0 +1,108 @@
+// The fields of a group from the slices that a caller lends.
+ghost use mathlib.Core.Path.{_≡_};
+ghost use Prim.Native.Nat.{_+_, _≤_};
+ghost use lib.ListN.{length};
+ghost use Rattle.vehicles.specs.Rules.{refused};
+ghost use Rattle.tezhebul.specs.Fields.{lengths, distancesAt, coefficientsAt, rowsOf};
+use sums::Emission;
+use sums::Verdict;
+use vehicles::Coefficients;
+use vehicles::Distances;
+use vehicles::GroupAnswer;
+use vehicles::Metres;
+use vehicles::PerKilometre;
+use vehicles::PerMinute;
+
+// Whether each slice is as long as it has to be.
+pub(crate) fn right_lengths(
+    distances: &[u32],
+    days: &[u8],
+    temperatures: &[i16],
+    coefficients: &[u32],
+) -> bool
+    ensures { λ r. ⌜ r ≡ lengths (now (distances .entry)) (now (days .entry)) (now (temperatures .entry)) (now (coefficients .entry)) ⌝ }
+{
+    (distances.len() == 4)
+        & (days.len() == 12)
+        & (temperatures.len() == 12)
+        & (coefficients.len() == 42)
+}
+
+pub(crate) fn distances_at(distances: &[u32], at: usize) -> Distances
+    requires { ⌜ at + 2 ≤ length (now distances) ⌝ }
+    ensures { λ r. ⌜ r ≡ distancesAt (now (distances .entry)) at ⌝ }
+{
+    Distances {
+        nearest: Metres(distances[at]),
+        farthest: Metres(distances[at + 1]),
+    }
+}
+
+pub(crate) fn days_of(days: &[u8]) -> [u8; 12]
+    requires { ⌜ length (now days) ≡ 12 ⌝ }
+    ensures { λ r. ⌜ r ≡ now (days .entry) ⌝ }
+{
+    [
+        days[0], days[1], days[2], days[3], days[4], days[5], days[6], days[7], days[8], days[9],
+        days[10], days[11],
+    ]
+}
+
+pub(crate) fn temperatures_of(temperatures: &[i16]) -> [i16; 12]
+    requires { ⌜ length (now temperatures) ≡ 12 ⌝ }
+    ensures { λ r. ⌜ r ≡ now (temperatures .entry) ⌝ }
+{
+    let mut ts = [0; 12];
+    let mut m = 0;
+    while m < 12 {
+        ts[m] = temperatures[m];
+        m += 1;
+    }
+    ts
+}
+
+fn coefficients_at(numbers: &[u32], at: usize) -> Coefficients
+    requires { ⌜ at + 7 ≤ length (now numbers) ⌝ }
+    ensures { λ r. ⌜ r ≡ coefficientsAt (now (numbers .entry)) at ⌝ }
+{
+    let warmup = [
+        PerMinute(numbers[at]),
+        PerMinute(numbers[at + 1]),
+        PerMinute(numbers[at + 2]),
+    ];
+    let run = [
+        PerKilometre(numbers[at + 3]),
+        PerKilometre(numbers[at + 4]),
+        PerKilometre(numbers[at + 5]),
+    ];
+    Coefficients {
+        warmup,
+        run,
+        idle: PerMinute(numbers[at + 6]),
+    }
+}
+
+// The rows of the six pollutants, seven numbers each.
+pub(crate) fn rows_of(coefficients: &[u32]) -> [Coefficients; 6]
+    requires { ⌜ length (now coefficients) ≡ 42 ⌝ }
+    ensures { λ r. ⌜ r ≡ rowsOf (now (coefficients .entry)) ⌝ }
+{
+    [
+        coefficients_at(coefficients, 0),
+        coefficients_at(coefficients, 7),
+        coefficients_at(coefficients, 14),
+        coefficients_at(coefficients, 21),
+        coefficients_at(coefficients, 28),
+        coefficients_at(coefficients, 35),
+    ]
+}
+
+// The answer where a field is out of range.
+pub(crate) fn out_of_range() -> GroupAnswer
+    ensures { λ r. ⌜ r ≡ refused 9 ⌝ }
+{
+    GroupAnswer {
+        verdict: Verdict { number: 9, slot: 0 },
+        emissions: [Emission::none(); 6],
+    }
+}
