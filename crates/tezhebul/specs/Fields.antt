@@ -67,9 +67,12 @@ unfoldable pub rowsOf : List ℕ → List Coefficients
 rowsOf l = listTo 6 (λ (p : ℕ). coefficientsAt l (7 * p))
 
 -- how long the slices of a group have to be: four distances, twelve months' days and temperatures, six rows of seven coefficients
-abbrev pub lengths : List ℕ → List ℕ → List ℤ → List ℕ → Bool
-lengths distances days temperatures coefficients =
-    allOf (eqb (length distances) 4 ∷ eqb (length days) 12 ∷ eqb (length temperatures) 12 ∷ eqb (length coefficients) 42 ∷ [])
+abbrev pub lengthTests : List ℕ → List ℕ → List ℤ → List ℕ → List Bool
+lengthTests distances days temperatures coefficients =
+    eqb (length distances) 4 ∷ eqb (length days) 12 ∷ eqb (length temperatures) 12 ∷ eqb (length coefficients) 42 ∷ []
+
+unfoldable pub lengths : List ℕ → List ℕ → List ℤ → List ℕ → Bool
+lengths distances days temperatures coefficients = allOf (lengthTests distances days temperatures coefficients)
 
 -- a group; "flags: bit 0 emission control done, bit 1 heated stand"
 abbrev pub groupOf : ℕ → ℕ → ℕ → ℕ → ℕ → ℕ → ℕ → ℕ → ℕ → List ℕ → List ℕ → Group

@@ -3,13 +3,16 @@ ghost use mathlib.Core.Path.{_≡_};
 ghost use Prim.Native.Nat.{_+_, _≤_};
 ghost use lib.ListN.{length};
 ghost use Rattle.vehicles.specs.Rules.{refused};
-ghost use Rattle.tezhebul.specs.Fields.{lengths, distancesAt, coefficientsAt, rowsOf};
+ghost use Rattle.tezhebul.specs.Fields.{lengths, distancesAt, groupOf, coefficientsAt, rowsOf};
 use sums::Emission;
 use sums::Verdict;
 use vehicles::Coefficients;
 use vehicles::Distances;
+use vehicles::Group;
 use vehicles::GroupAnswer;
 use vehicles::Metres;
+use vehicles::Minutes;
+use vehicles::Neutraliser;
 use vehicles::PerKilometre;
 use vehicles::PerMinute;
 
@@ -28,7 +31,7 @@ pub(crate) fn right_lengths(
         & (coefficients.len() == 42)
 }
 
-pub(crate) fn distances_at(distances: &[u32], at: usize) -> Distances
+fn distances_at(distances: &[u32], at: usize) -> Distances
     requires { ⌜ at + 2 ≤ length (now distances) ⌝ }
     ensures { λ r. ⌜ r ≡ distancesAt (now (distances .entry)) at ⌝ }
 {
@@ -38,14 +41,56 @@ pub(crate) fn distances_at(distances: &[u32], at: usize) -> Distances
     }
 }
 
-pub(crate) fn days_of(days: &[u8]) -> [u8; 12]
+fn days_of(days: &[u8]) -> [u8; 12]
     requires { ⌜ length (now days) ≡ 12 ⌝ }
     ensures { λ r. ⌜ r ≡ now (days .entry) ⌝ }
 {
     [
-        days[0], days[1], days[2], days[3], days[4], days[5], days[6], days[7], days[8], days[9],
-        days[10], days[11],
+        days[0],
+        days[1],
+        days[2],
+        days[3],
+        days[4],
+        days[5],
+        days[6],
+        days[7],
+        days[8],
+        days[9],
+        days[10],
+        days[11],
     ]
+}
+
+pub(crate) fn group_of(
+    category: u8,
+    fuel: u8,
+    flags: u8,
+    vehicles: u16,
+    leaving: u16,
+    share: u8,
+    running: u8,
+    warming: u8,
+    idle: u32,
+    distances: &[u32],
+    days: &[u8],
+) -> Group
+    requires { ⌜ (length (now distances) ≡ 4) × (length (now days) ≡ 12) ⌝ }
+    ensures { λ r. ⌜ r ≡ groupOf category fuel flags vehicles leaving share running warming idle (now (distances .entry)) (now (days .entry)) ⌝ }
+{
+    Group {
+        category,
+        fuel,
+        controlled: flags % 2 == 1,
+        heated: flags / 2 % 2 == 1,
+        vehicles,
+        leaving,
+        share,
+        neutraliser: Neutraliser { running, warming },
+        idle: Minutes(idle),
+        outward: distances_at(distances, 0),
+        inward: distances_at(distances, 2),
+        days: days_of(days),
+    }
 }
 
 pub(crate) fn temperatures_of(temperatures: &[i16]) -> [i16; 12]

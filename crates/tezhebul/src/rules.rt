@@ -1,16 +1,23 @@
 // The source rules, asked with values and without a slot file.
 ghost use mathlib.Core.Path.{_≡_};
+ghost use mathlib.Core.Bool.{_&&_};
 ghost use lib.Dec.{leb};
 ghost use lib.ListN.{length};
 ghost use Rattle.stores.specs.Rules.{handlingAnswer, standingAnswer, aspirationAnswer};
-ghost use Rattle.tezhebul.specs.Numbers.{storeNumbers, into};
-ghost use Rattle.tezhebul.specs.Fields.{handlingOf, standingOf, aspirationOf};
+ghost use Rattle.sums.specs.Choice.{if_then_else};
+ghost use Rattle.vehicles.specs.Rules.{groupAnswer};
+ghost use Rattle.tezhebul.specs.Numbers.{storeNumbers, groupNumbers, into};
+ghost use Rattle.tezhebul.specs.Fields.{handlingOf, standingOf, aspirationOf, lengths, groupOf, rowsOf, flagged};
+use super::fields;
 use super::numbers;
 use stores::Aspiration;
 use stores::Bulk;
 use stores::Handling;
 use stores::Standing;
 use stores::StoreAnswer;
+use vehicles::Coefficients;
+use vehicles::Group;
+use vehicles::GroupAnswer;
 
 // The numbers of a store rule's answer at the start of `out`; false, and nothing written, where it has room for fewer.
 fn give_store(a: StoreAnswer, out: &mut [u64]) -> bool
@@ -102,4 +109,66 @@ pub extern "C" fn tezhebul_aspiration(
         }),
         out,
     )
+}
+
+// The numbers of a group's answer at the start of `out`, likewise.
+fn give_group(a: GroupAnswer, out: &mut [u64]) -> bool
+    ensures { λ r. ⌜ (r ≡ leb 32 (length (now (out .entry)))) × (now (out .exit) ≡ into (groupNumbers a) (now (out .entry))) ⌝ }
+{
+    let v = a.verdict;
+    let es = a.emissions;
+    let n = numbers::group_numbers(v, es);
+    numbers::give(&n, out)
+}
+
+fn group_answer(flags: u8, g: Group, ts: [i16; 12], ks: [Coefficients; 6]) -> GroupAnswer
+    ensures { λ r. ⌜ r ≡ flagged flags (groupAnswer g ts ks) ⌝ }
+{
+    if flags <= 3 {
+        vehicles::group_emissions(g, ts, ks)
+    } else {
+        fields::out_of_range()
+    }
+}
+
+// The numbers of what a group gives of each pollutant; false, and nothing written, also where a slice is not as long as it has to be.
+#[no_mangle]
+pub extern "C" fn tezhebul_group(
+    category: u8,
+    fuel: u8,
+    flags: u8,
+    vehicles: u16,
+    leaving: u16,
+    share: u8,
+    running: u8,
+    warming: u8,
+    idle: u32,
+    distances: &[u32],
+    days: &[u8],
+    temperatures: &[i16],
+    coefficients: &[u32],
+    out: &mut [u64],
+) -> bool
+    ensures { λ r. ⌜ (r ≡ (lengths (now (distances .entry)) (now (days .entry)) (now (temperatures .entry)) (now (coefficients .entry)) && leb 32 (length (now (out .entry))))) × (now (out .exit) ≡ if_then_else (lengths (now (distances .entry)) (now (days .entry)) (now (temperatures .entry)) (now (coefficients .entry))) (into (groupNumbers (flagged flags (groupAnswer (groupOf category fuel flags vehicles leaving share running warming idle (now (distances .entry)) (now (days .entry))) (now (temperatures .entry)) (rowsOf (now (coefficients .entry)))))) (now (out .entry))) (now (out .entry))) ⌝ }
+{
+    if fields::right_lengths(distances, days, temperatures, coefficients) {
+        let g = fields::group_of(
+            category,
+            fuel,
+            flags,
+            vehicles,
+            leaving,
+            share,
+            running,
+            warming,
+            idle,
+            distances,
+            days,
+        );
+        let ts = fields::temperatures_of(temperatures);
+        let ks = fields::rows_of(coefficients);
+        give_group(group_answer(flags, g, ts, ks), out)
+    } else {
+        false
+    }
 }
