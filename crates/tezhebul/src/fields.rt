@@ -1,9 +1,10 @@
-// The fields of a group from the slices that a caller lends.
+// The fields of sources from the numbers that a caller hands over.
 ghost use mathlib.Core.Path.{_≡_};
 ghost use Prim.Native.Nat.{_+_, _≤_};
 ghost use lib.ListN.{length};
 ghost use Rattle.vehicles.specs.Rules.{refused};
-ghost use Rattle.tezhebul.specs.Fields.{lengths, distancesAt, groupOf, coefficientsAt, rowsOf};
+ghost use Rattle.tezhebul.specs.Fields.{bulkOf, lengths, distancesAt, groupOf, coefficientsAt, rowsOf};
+use stores::Bulk;
 use sums::Emission;
 use sums::Verdict;
 use vehicles::Coefficients;
@@ -15,6 +16,30 @@ use vehicles::Minutes;
 use vehicles::Neutraliser;
 use vehicles::PerKilometre;
 use vehicles::PerMinute;
+
+pub(crate) fn bulk_of(
+    dust: u8,
+    store: u16,
+    material: u8,
+    wind: u16,
+    moisture: u16,
+    grain: u16,
+    openness: u8,
+    amount: u32,
+) -> Bulk
+    ensures { λ r. ⌜ r ≡ bulkOf dust store material wind moisture grain openness amount ⌝ }
+{
+    Bulk {
+        dust,
+        store,
+        material,
+        wind,
+        moisture,
+        grain,
+        openness,
+        amount,
+    }
+}
 
 // Whether each slice is as long as it has to be.
 pub(crate) fn right_lengths(

@@ -11,7 +11,6 @@ ghost use Rattle.tezhebul.specs.Fields.{handlingOf, standingOf, aspirati
 use super::fields;
 use super::numbers;
 use stores::Aspiration;
-use stores::Bulk;
 use stores::Handling;
 use stores::Standing;
 use stores::StoreAnswer;
@@ -43,7 +42,7 @@ pub extern "C" fn tezhebul_handling(
 ) -> bool
     ensures { λ r. ⌜ (r ≡ leb 7 (length (now (out .entry)))) × (now (out .exit) ≡ into (storeNumbers (handlingAnswer (handlingOf dust store material wind moisture grain openness amount drop))) (now (out .entry))) ⌝ }
 {
-    let bulk = Bulk {
+    let bulk = fields::bulk_of(
         dust,
         store,
         material,
@@ -52,7 +51,7 @@ pub extern "C" fn tezhebul_handling(
         grain,
         openness,
         amount,
-    };
+    );
     give_store(stores::handling_emission(Handling { bulk, drop }), out)
 }
 
@@ -72,7 +71,7 @@ pub extern "C" fn tezhebul_standing(
 ) -> bool
     ensures { λ r. ⌜ (r ≡ leb 7 (length (now (out .entry)))) × (now (out .exit) ≡ into (storeNumbers (standingAnswer (standingOf dust store material wind moisture grain openness amount k6))) (now (out .entry))) ⌝ }
 {
-    let bulk = Bulk {
+    let bulk = fields::bulk_of(
         dust,
         store,
         material,
@@ -81,7 +80,7 @@ pub extern "C" fn tezhebul_standing(
         grain,
         openness,
         amount,
-    };
+    );
     give_store(stores::standing_emission(Standing { bulk, k6 }), out)
 }
 

@@ -6,5 +6,5 @@ use Rattle.tezhebul.proofs.rules.tezhebul_standing.Tie as tie
 pub tezhebul-standing-spec : {M : Type 1} → statement M
 tezhebul-standing-spec =
     tie.close
-    (tie.spec (search needs) (search needs) (search needs)
-    (λ c. rw (c .before .before .before .before .standing-emission .ensures) at (c .before .before .give-store .ensures)))
+    (tie.spec (search needs) (search needs) (search needs) (search needs)
+    (λ c. rw (c .before .before .before .before .standing-emission .ensures, c .before .before .before .before .before .bulk-of .ensures) at (c .before .before .give-store .ensures)))
