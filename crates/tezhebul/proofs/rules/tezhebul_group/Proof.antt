@@ -7,7 +7,8 @@ use mathlib.Core.Bool.{true}
 use mathlib.Core.List.{List}
 use lib.IntN.{ℤ}
 use lib.ListN.{length}
-use Rattle.sums.proofs.Choices.{yes, no, nth}
+use Rattle.sums.specs.Choice.{if_then_else}
+use Rattle.sums.proofs.Choices.{nth}
 use Rattle.tezhebul.specs.Fields.{lengthTests, lengths}
 use Rattle.tezhebul.proofs.rules.tezhebul_group.Statement.{statement}
 use Rattle.tezhebul.proofs.rules.tezhebul_group.Tie as tie
@@ -28,15 +29,16 @@ rows-of-requires : tie.Need-rows-of-requires
 rows-of-requires c κs = right _ _ _ _ (sym (c .before .before .before .right-lengths .ensures) ∙ c .before .before .if1 .taken) .3
 
 returns : tie.Need-returns
+unfolding if_then_else
 returns c =
     let a = c .before .before .before .before in
     let b = a .before .before .before .before in
-    let h = sym (b .before .right-lengths .ensures) ∙ b .if1 .taken in
-    let g = rw (a .group-answer .ensures, a .before .rows-of .ensures, a .before .before .temperatures-of .ensures, a .before .before .before .group-of .ensures) at (c .before .before .give-group .ensures) in
-    (rw h (g .0), yes _ _ _ _ h (g .1))
+    rw (← b .before .right-lengths .ensures, b .if1 .taken)
+    (rw (a .group-answer .ensures, a .before .rows-of .ensures, a .before .before .temperatures-of .ensures, a .before .before .before .group-of .ensures) at (c .before .before .give-group .ensures))
 
 returns-2 : tie.Need-returns-2
-returns-2 c = let h = sym (c .before .right-lengths .ensures) ∙ c .if1 .left in (rw h, no _ _ _ _ h refl)
+unfolding if_then_else
+returns-2 c = rw (← c .before .right-lengths .ensures, c .if1 .left) (refl, refl)
 
 pub tezhebul-group-spec : {M : Type 1} → statement M
 tezhebul-group-spec =
