@@ -36,7 +36,7 @@ size_t tezhebul_list(const uint8_t *file, size_t file_length, uint8_t *buffer, s
    To add sources, add wholes and parts, and carry one whole for each denominator in the parts. The figure of a sum, rounded once after all sources are added, is
    its whole, and one more where its part is half of the denominator or more.
 
-   C cuts a wider integer to the type of a parameter without a word: a caller that holds one tests it first. */
+   C narrows a wider integer to the type of a parameter without a warning by default: a caller that holds one tests it first. */
 #define TEZHEBUL_EMISSION_NUMBERS 5
 #define TEZHEBUL_STORE_NUMBERS (2 + TEZHEBUL_EMISSION_NUMBERS)
 #define TEZHEBUL_GROUP_NUMBERS (2 + 6 * TEZHEBUL_EMISSION_NUMBERS)
