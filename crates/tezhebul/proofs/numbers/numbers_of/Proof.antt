@@ -2,8 +2,8 @@
 use borrow.Author.Needs.{needs}
 use mathlib.Core.Path.{refl}
 use Rattle.sums.specs.Choice.{listTo}
-use Rattle.tezhebul.proofs.numbers_of.Statement.{statement}
-use Rattle.tezhebul.proofs.numbers_of.Tie as tie
+use Rattle.tezhebul.proofs.numbers.numbers_of.Statement.{statement}
+use Rattle.tezhebul.proofs.numbers.numbers_of.Tie as tie
 
 pub numbers-of-spec : {M : Type 1} → statement M
 unfolding listTo

@@ -3,8 +3,8 @@ use borrow.Author.Needs.{needs}
 use mathlib.Core.Path.{ap, _∙_}
 use Rattle.slot_file.specs.Listing.{Listed}
 use Rattle.tezhebul.specs.Numbers.{numbersOf, into}
-use Rattle.tezhebul.proofs.tezhebul_list.Statement.{statement}
-use Rattle.tezhebul.proofs.tezhebul_list.Tie as tie
+use Rattle.tezhebul.proofs.files.tezhebul_list.Statement.{statement}
+use Rattle.tezhebul.proofs.files.tezhebul_list.Tie as tie
 
 returns : tie.Need-returns
 returns c =
@@ -13,7 +13,7 @@ returns c =
     let e = b .list .ensures in (
       ap (λ (l : Listed). l .length) e,
       ap (λ (l : Listed). l .buffer) e,
-      c .before .before .give .ensures .1 ∙ ap (λ (l : Listed). into (numbersOf (l .answer)) out) e,
+      c .before .before .give-answer .ensures .1 ∙ ap (λ (l : Listed). into (numbersOf (l .answer)) out) e,
     )
 
 pub tezhebul-list-spec : {M : Type 1} → statement M

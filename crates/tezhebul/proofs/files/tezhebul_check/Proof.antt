@@ -3,8 +3,8 @@ use borrow.Author.Needs.{needs}
 use mathlib.Core.Path.{ap}
 use Rattle.sums.specs.declared.answer.Verdict.{Verdict}
 use Rattle.tezhebul.specs.Numbers.{packed}
-use Rattle.tezhebul.proofs.tezhebul_check.Statement.{statement}
-use Rattle.tezhebul.proofs.tezhebul_check.Tie as tie
+use Rattle.tezhebul.proofs.files.tezhebul_check.Statement.{statement}
+use Rattle.tezhebul.proofs.files.tezhebul_check.Tie as tie
 
 pub tezhebul-check-spec : {M : Type 1} → statement M
 tezhebul-check-spec =

@@ -1,0 +1,46 @@
+-- The lengths choose; where they are right, the numbers of the rule's answer.
+use borrow.Author.Needs.{needs}
+use borrow.Author.Tests.{eqb-true}
+use Prim.Native.Nat.{ℕ}
+use mathlib.Core.Path.{_≡_, refl, sym, _∙_}
+use mathlib.Core.Bool.{true}
+use mathlib.Core.List.{List}
+use lib.IntN.{ℤ}
+use lib.ListN.{length}
+use Rattle.sums.specs.Choice.{if_then_else}
+use Rattle.sums.proofs.Choices.{nth}
+use Rattle.tezhebul.specs.Fields.{lengthTests, lengths}
+use Rattle.tezhebul.proofs.rules.tezhebul_group.Statement.{statement}
+use Rattle.tezhebul.proofs.rules.tezhebul_group.Tie as tie
+
+right : (d ds : List ℕ) (ts : List ℤ) (ks : List ℕ) → lengths d ds ts ks ≡ true → (length d ≡ 4) × (length ds ≡ 12) × (length ts ≡ 12) × (length ks ≡ 42)
+unfolding lengths
+right d ds ts ks h =
+    let t = nth (lengthTests d ds ts ks) h in
+    (eqb-true (length d) 4 (t 0), eqb-true (length ds) 12 (t 1), eqb-true (length ts) 12 (t 2), eqb-true (length ks) 42 (t 3))
+
+group-of-requires : tie.Need-group-of-requires
+group-of-requires c κs = let l = right _ _ _ _ (sym (c .before .right-lengths .ensures) ∙ c .if1 .taken) in (l .0, l .1)
+
+temperatures-of-requires : tie.Need-temperatures-of-requires
+temperatures-of-requires c κs = right _ _ _ _ (sym (c .before .before .right-lengths .ensures) ∙ c .before .if1 .taken) .2
+
+rows-of-requires : tie.Need-rows-of-requires
+rows-of-requires c κs = right _ _ _ _ (sym (c .before .before .before .right-lengths .ensures) ∙ c .before .before .if1 .taken) .3
+
+returns : tie.Need-returns
+unfolding if_then_else
+returns c =
+    let a = c .before .before .before .before in
+    let b = a .before .before .before .before in
+    rw (← b .before .right-lengths .ensures, b .if1 .taken)
+    (rw (a .group-answer .ensures, a .before .rows-of .ensures, a .before .before .temperatures-of .ensures, a .before .before .before .group-of .ensures) at (c .before .before .give-group .ensures))
+
+returns-2 : tie.Need-returns-2
+unfolding if_then_else
+returns-2 c = rw (← c .before .right-lengths .ensures, c .if1 .left) (refl, refl)
+
+pub tezhebul-group-spec : {M : Type 1} → statement M
+tezhebul-group-spec =
+    tie.close
+    (tie.spec (search needs) group-of-requires temperatures-of-requires rows-of-requires (search needs) (search needs) (search needs) returns returns-2)

@@ -1,0 +1,173 @@
+// The source rules, asked with values and without a slot file.
+ghost use mathlib.Core.Path.{_≡_};
+ghost use mathlib.Core.Bool.{_&&_};
+ghost use lib.Dec.{leb};
+ghost use lib.ListN.{length};
+ghost use Rattle.stores.specs.Rules.{handlingAnswer, standingAnswer, aspirationAnswer};
+ghost use Rattle.sums.specs.Choice.{if_then_else};
+ghost use Rattle.vehicles.specs.Rules.{groupAnswer};
+ghost use Rattle.tezhebul.specs.Numbers.{storeNumbers, groupNumbers, into};
+ghost use Rattle.tezhebul.specs.Fields.{handlingOf, standingOf, aspirationOf, lengths, groupOf, rowsOf, flagged};
+use super::fields;
+use super::numbers;
+use stores::Aspiration;
+use stores::Handling;
+use stores::Standing;
+use stores::StoreAnswer;
+use vehicles::Coefficients;
+use vehicles::Group;
+use vehicles::GroupAnswer;
+
+// The numbers of a store rule's answer at the start of `out`; false, and nothing written, where it has room for fewer.
+fn give_store(a: StoreAnswer, out: &mut [u64]) -> bool
+    ensures { λ r. ⌜ (r ≡ leb 7 (length (now (out .entry)))) × (now (out .exit) ≡ into (storeNumbers a) (now (out .entry))) ⌝ }
+{
+    let n = numbers::store_numbers(a);
+    numbers::give(&n, out)
+}
+
+// The numbers of what a handling record gives.
+#[no_mangle]
+pub extern "C" fn tezhebul_handling(
+    dust: u8,
+    store: u16,
+    material: u8,
+    wind: u16,
+    moisture: u16,
+    grain: u16,
+    openness: u8,
+    amount: u32,
+    drop: u8,
+    out: &mut [u64],
+) -> bool
+    ensures { λ r. ⌜ (r ≡ leb 7 (length (now (out .entry)))) × (now (out .exit) ≡ into (storeNumbers (handlingAnswer (handlingOf dust store material wind moisture grain openness amount drop))) (now (out .entry))) ⌝ }
+{
+    let bulk = fields::bulk_of(
+        dust,
+        store,
+        material,
+        wind,
+        moisture,
+        grain,
+        openness,
+        amount,
+    );
+    give_store(stores::handling_emission(Handling { bulk, drop }), out)
+}
+
+// The numbers of what a standing record gives.
+#[no_mangle]
+pub extern "C" fn tezhebul_standing(
+    dust: u8,
+    store: u16,
+    material: u8,
+    wind: u16,
+    moisture: u16,
+    grain: u16,
+    openness: u8,
+    amount: u32,
+    k6: u16,
+    out: &mut [u64],
+) -> bool
+    ensures { λ r. ⌜ (r ≡ leb 7 (length (now (out .entry)))) × (now (out .exit) ≡ into (storeNumbers (standingAnswer (standingOf dust store material wind moisture grain openness amount k6))) (now (out .entry))) ⌝ }
+{
+    let bulk = fields::bulk_of(
+        dust,
+        store,
+        material,
+        wind,
+        moisture,
+        grain,
+        openness,
+        amount,
+    );
+    give_store(stores::standing_emission(Standing { bulk, k6 }), out)
+}
+
+// The numbers of what an aspiration record gives.
+#[no_mangle]
+pub extern "C" fn tezhebul_aspiration(
+    dust: u8,
+    store: u16,
+    concentration: u32,
+    flow: u32,
+    capture: u16,
+    hours: u16,
+    out: &mut [u64],
+) -> bool
+    ensures { λ r. ⌜ (r ≡ leb 7 (length (now (out .entry)))) × (now (out .exit) ≡ into (storeNumbers (aspirationAnswer (aspirationOf dust store concentration flow capture hours))) (now (out .entry))) ⌝ }
+{
+    give_store(
+        stores::aspiration_emission(Aspiration {
+            dust,
+            store,
+            concentration,
+            flow,
+            capture,
+            hours,
+        }),
+        out,
+    )
+}
+
+// The numbers of a group's answer at the start of `out`, likewise.
+fn give_group(a: GroupAnswer, out: &mut [u64]) -> bool
+    ensures { λ r. ⌜ (r ≡ leb 32 (length (now (out .entry)))) × (now (out .exit) ≡ into (groupNumbers a) (now (out .entry))) ⌝ }
+{
+    let v = a.verdict;
+    let es = a.emissions;
+    let n = numbers::group_numbers(v, es);
+    numbers::give(&n, out)
+}
+
+fn group_answer(flags: u8, g: Group, ts: [i16; 12], ks: [Coefficients; 6]) -> GroupAnswer
+    ensures { λ r. ⌜ r ≡ flagged flags (groupAnswer g ts ks) ⌝ }
+{
+    if flags <= 3 {
+        vehicles::group_emissions(g, ts, ks)
+    } else {
+        fields::out_of_range()
+    }
+}
+
+// The numbers of what a group gives of each pollutant; false, and nothing written, also where a slice is not as long as it has to be.
+#[no_mangle]
+pub extern "C" fn tezhebul_group(
+    category: u8,
+    fuel: u8,
+    flags: u8,
+    vehicles: u16,
+    leaving: u16,
+    share: u8,
+    running: u8,
+    warming: u8,
+    idle: u32,
+    distances: &[u32],
+    days: &[u8],
+    temperatures: &[i16],
+    coefficients: &[u32],
+    out: &mut [u64],
+) -> bool
+    ensures { λ r. ⌜ (r ≡ (lengths (now (distances .entry)) (now (days .entry)) (now (temperatures .entry)) (now (coefficients .entry)) && leb 32 (length (now (out .entry))))) × (now (out .exit) ≡ if_then_else (lengths (now (distances .entry)) (now (days .entry)) (now (temperatures .entry)) (now (coefficients .entry))) (into (groupNumbers (flagged flags (groupAnswer (groupOf category fuel flags vehicles leaving share running warming idle (now (distances .entry)) (now (days .entry))) (now (temperatures .entry)) (rowsOf (now (coefficients .entry)))))) (now (out .entry))) (now (out .entry))) ⌝ }
+{
+    if fields::right_lengths(distances, days, temperatures, coefficients) {
+        let g = fields::group_of(
+            category,
+            fuel,
+            flags,
+            vehicles,
+            leaving,
+            share,
+            running,
+            warming,
+            idle,
+            distances,
+            days,
+        );
+        let ts = fields::temperatures_of(temperatures);
+        let ks = fields::rows_of(coefficients);
+        give_group(group_answer(flags, g, ts, ks), out)
+    } else {
+        false
+    }
+}
