@@ -9,8 +9,7 @@ const GOAL: f64 = 1.0;
 const ACCEPTED: f64 = 1.5;
 
 fn find<'a>(rows: &'a [Row], file: &str, work: Work) -> Option<&'a Row> {
-    rows.iter()
-        .find(|row| row.file == file && row.work.name() == work.name())
+    rows.iter().find(|row| row.file == file && row.work == work)
 }
 
 /// What a slot costs: instructions, or nanoseconds where none were counted.

@@ -8,7 +8,7 @@ pub enum Side {
     Plain,
 }
 
-#[derive(Clone, Copy)]
+#[derive(Clone, Copy, PartialEq, Eq)]
 pub enum Work {
     Check,
     Answer,
