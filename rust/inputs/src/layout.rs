@@ -24,37 +24,69 @@ struct Chains {
     starts: Vec<usize>,
 }
 
+/// The order of both chains, and the places of all slots but slot 0: those of the groups, of the
+/// store records, of the coefficients.
+struct Order {
+    groups: Vec<usize>,
+    stores: Vec<usize>,
+    places: Vec<u16>,
+}
+
 /// Lays the inventory out in one of many ways.
 pub fn lay_out(random: &mut Random, inventory: &Inventory) -> Layout {
-    let mut groups: Vec<usize> = (0..inventory.groups.len()).collect();
-    let mut stores: Vec<usize> = (0..inventory.stores.len()).collect();
+    let mut order = Order::new(inventory);
     if !random.once_in(4) {
-        random.shuffle(&mut groups);
-        random.shuffle(&mut stores);
+        order.shuffle_chains(random);
     }
-    let chains = chains(random, inventory, &groups);
-    let count = 1 + groups.len() + stores.len() + chains.nodes.len();
-    let mut places: Vec<u16> = (1..count as u16).collect();
+    let chains = chains(random, inventory, &order.groups);
+    order.add_places(chains.nodes.len());
     if !random.once_in(4) {
-        random.shuffle(&mut places);
+        random.shuffle(&mut order.places);
     }
-    let (group_places, rest) = places.split_at(groups.len());
-    let (store_places, coefficient_places) = rest.split_at(stores.len());
+    written(inventory, &order, &chains)
+}
+
+/// Lays the inventory out with each of its rows in six slots of their own, all of it shuffled.
+pub fn lay_out_rows_once(random: &mut Random, inventory: &Inventory) -> Layout {
+    let mut order = Order::new(inventory);
+    order.shuffle_chains(random);
+    let chains = chains_once(random, inventory, &order.groups);
+    order.add_places(chains.nodes.len());
+    random.shuffle(&mut order.places);
+    written(inventory, &order, &chains)
+}
+
+fn written(inventory: &Inventory, order: &Order, chains: &Chains) -> Layout {
+    let (group_places, rest) = order.places.split_at(order.groups.len());
+    let (store_places, coefficient_places) = rest.split_at(order.stores.len());
     let mut layout = Layout {
-        file: vec![0; count * SLOT],
+        file: vec![0; (1 + order.places.len()) * SLOT],
         groups: group_places.to_vec(),
         coefficients: coefficient_places.to_vec(),
         stores: store_places.to_vec(),
     };
     layout.write_head(inventory);
-    layout.write_chains(&chains);
-    for (place, &group) in groups.iter().enumerate() {
+    layout.write_chains(chains);
+    for (place, &group) in order.groups.iter().enumerate() {
         layout.write_group(place, &inventory.groups[group].slot, chains.starts[place]);
     }
-    for (place, &store) in stores.iter().enumerate() {
+    for (place, &store) in order.stores.iter().enumerate() {
         layout.write_store(place, &inventory.stores[store]);
     }
     layout
+}
+
+/// Groups with the same rows share all slots of them.
+fn chains_once(random: &mut Random, inventory: &Inventory, groups: &[usize]) -> Chains {
+    let mut chains = Chains {
+        nodes: Vec::new(),
+        starts: Vec::new(),
+    };
+    let add = |rows| chains.add(random, rows, false);
+    let starts: Vec<usize> = inventory.rows.iter().map(add).collect();
+    let start = |&group: &usize| starts[inventory.groups[group].rows];
+    chains.starts = groups.iter().map(start).collect();
+    chains
 }
 
 /// Groups with the same rows share all slots of them, some, or none, as far as there is room.
@@ -82,6 +114,26 @@ fn chains(random: &mut Random, inventory: &Inventory, groups: &[usize]) -> Chain
         chains.starts.push(start);
     }
     chains
+}
+
+impl Order {
+    fn new(inventory: &Inventory) -> Order {
+        Order {
+            groups: (0..inventory.groups.len()).collect(),
+            stores: (0..inventory.stores.len()).collect(),
+            places: Vec::new(),
+        }
+    }
+
+    fn shuffle_chains(&mut self, random: &mut Random) {
+        random.shuffle(&mut self.groups);
+        random.shuffle(&mut self.stores);
+    }
+
+    fn add_places(&mut self, coefficients: usize) {
+        let count = 1 + self.groups.len() + self.stores.len() + coefficients;
+        self.places = (1..count as u16).collect();
+    }
 }
 
 impl Chains {

@@ -5,10 +5,12 @@
 mod damage;
 mod fields;
 mod layout;
+mod plant;
 mod random;
 mod sources;
 
 pub use layout::{lay_out, Layout};
+pub use plant::{plant, Size};
 pub use random::Random;
 pub use sources::Inventory;
 

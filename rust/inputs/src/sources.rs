@@ -142,7 +142,8 @@ fn temperature(random: &mut Random) -> i16 {
     }
 }
 
-fn drawn(random: &mut Random, kind: u8, style: Style) -> Slot {
+/// A slot of the kind with its fields drawn, without links, pollutant and N'.
+pub fn drawn(random: &mut Random, kind: u8, style: Style) -> Slot {
     let mut slot = [0; SLOT];
     slot[2] = kind;
     for field in fields(kind) {
@@ -184,9 +185,18 @@ fn add_group(random: &mut Random, inventory: &mut Inventory, style: Style) {
     inventory.groups.push(Group { slot, rows });
 }
 
+/// The pollutant that is zero throughout for this fuel.
+pub fn zero_for(fuel: u32) -> usize {
+    if fuel == PETROL {
+        SOOT
+    } else {
+        LEAD
+    }
+}
+
 /// Rows that the fuel allows: those of an earlier group, or new ones that may end like them.
 fn rows_for(random: &mut Random, inventory: &mut Inventory, style: Style, fuel: u32) -> usize {
-    let zero = if fuel == PETROL { SOOT } else { LEAD };
+    let zero = zero_for(fuel);
     let mut tail = 6;
     let mut rows = [[0; SLOT]; 6];
     if !inventory.rows.is_empty() && !random.once_in(3) {
