@@ -18,8 +18,7 @@ use Rattle.sums.proofs.Wrapping.{mixed-plus}
 use Rattle.slot_file.specs.Figures.{codes}
 use Rattle.slot_file.specs.Alike.{total}
 use Rattle.slot_file.specs.Parts.{partsTo, annualTo, peakTo}
-use Rattle.totals.specs.Totals.{moreFor, totalsOf, plusEmission, plusTo}
-use Rattle.totals.specs.declared.Totals.{Totals}
+use Rattle.totals.specs.Totals.{Totals, moreFor, totalsOf, plusEmission, plusTo}
 
 pub same-totals : (a b p q : ℕ → ℕ) → ((c : ℕ) → a c ≡ b c) → ((c : ℕ) → p c ≡ q c) → totalsOf a p ≡ totalsOf b q
 same-totals a b p q h k = λ i. record { annual = map (λ (c : ℕ). annualOf (h c i)) codes; peak = map (λ (c : ℕ). peakOf (k c i)) codes }

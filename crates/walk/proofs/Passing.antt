@@ -2,15 +2,17 @@
 use Prim.Native.Nat.{ℕ, _+_, _<_}
 use native.Mathlib.Omega.{arith}
 use mathlib.Core.Path.{_≡_, refl, ap, subst, _∙_}
-use mathlib.Core.Bool.{Bool, true}
+use mathlib.Core.Bool.{Bool, true, false}
 use mathlib.Core.List.{List, [], _∷_, _++_}
 use lib.ListN.{getD, length, set, length-append}
 use Rattle.sums.specs.Choice.{if_then_else, listTo}
+use Rattle.sums.specs.Figures.{mixedOf}
 use Rattle.sums.specs.Answer.{Contribution, emitted}
 use Rattle.sums.specs.declared.answer.Verdict.{Verdict}
 use Rattle.stores.specs.Rules.{handlingContribution, standingContribution, aspirationContribution}
 use Rattle.stores.proofs.Exactly.{handling-emitted, standing-emitted, aspiration-emitted}
 use Rattle.vehicles.specs.Fields.{noCoefficients}
+use Rattle.vehicles.specs.declared.rule.GroupAnswer.{GroupAnswer}
 use Rattle.vehicles.specs.Rules.{contributionOf, emissionOf, emissionsOf, groupAnswer}
 use Rattle.slots.specs.Bytes.{slotOf}
 use Rattle.slots.specs.Layout.{readStore}
@@ -25,8 +27,8 @@ use Rattle.slot_file.specs.Alike.{total}
 use Rattle.slot_file.proofs.Marks.{different-short}
 use Rattle.slot_file.proofs.Verdicts.{sized, groups-differ, stores-differ}
 use Rattle.slot_file.specs.Parts.{marksOf, annualTo, peakTo}
-use Rattle.totals.specs.Totals.{noTotals, totalsOf, plusEmission, plusTo}
-use Rattle.totals.specs.declared.Totals.{Totals}
+use Rattle.totals.specs.Totals.{Totals, totalsOf, noNumbers, totalsIn, plusEmission, plusTo, plusIn, plusToIn}
+use Rattle.totals.proofs.Forty.{plus-held, plus-to-held}
 use Rattle.totals.proofs.Sums.{same-totals, plus-emitted, plus-six}
 use Rattle.walk.specs.Rows.{marksTo}
 use Rattle.walk.specs.Steps.{GroupStepped, StoreStepped}
@@ -36,9 +38,20 @@ use Rattle.walk.specs.declared.records.StoreStep.{StoreStep}
 use Rattle.walk.proofs.Ranged.{group-answered, storeInRange, store-answered}
 
 -- nothing is summed yet
-pub no-sums : (s : List ℕ) → noTotals ≡ sumsOf s [] []
-unfolding listTo
+pub no-sums : (s : List ℕ) → totalsIn noNumbers ≡ sumsOf s [] []
+unfolding listTo totalsIn mixedOf
 no-sums s = refl
+
+-- the numbers stay forty
+group-room : (summing : Bool) (l : List ℕ) (a : GroupAnswer) → length l ≡ 40 → length (plusGroup summing l a) ≡ 40
+unfolding plusGroup if_then_else
+group-room true l a h = plus-to-held l (a .emissions) h 6 .0
+group-room false l a h = h
+
+store-room : (summing : Bool) (l : List ℕ) (r : StoreRead) → length l ≡ 40 → length (plusStore summing l r) ≡ 40
+unfolding plusStore if_then_else
+store-room true l r h = plus-held l (storeEmission r) h .0
+store-room false l r h = h
 
 module _ (s : List ℕ) where
   group-summed : (gs : List ℕ) (g : ℕ)
@@ -60,18 +73,18 @@ module _ (s : List ℕ) where
     pub groups-short : {gs : List ℕ} {link : ℕ} → Groups s gs link → length gs < 1024
     groups-short {gs} {link} w = different-short (slotCount s) gs (sized s h) (groups-differ s gs _ link (w .chain) (w .good))
 
-    pub groups-ended : {summing : Bool} {sources reached : List Bool} {totals : Totals} {holder link count : ℕ}
+    pub groups-ended : {summing : Bool} {sources reached : List Bool} {totals : List ℕ} {holder link count : ℕ}
         → GroupsPassed s summing sources reached totals holder link count → link ≡ 0 → GroupsEnded s summing sources reached totals count
     groups-ended {summing} {sources} {reached} {totals} {holder} {link} {count} p z =
         record { holder = holder; passed = subst (λ (k : ℕ). GroupsPassed s summing sources reached totals holder k count) z p }
 
-    pub group-passed : {summing : Bool} {sources sources′ reached reached′ : List Bool} {totals totals′ : Totals} {holder link count : ℕ} {r : GroupStep}
+    pub group-passed : {summing : Bool} {sources sources′ reached reached′ : List Bool} {totals totals′ : List ℕ} {holder link count : ℕ} {r : GroupStep}
         → GroupsPassed s summing sources reached totals holder link count → (link ≡ 0 → ⊥)
         → GroupStepped s holder link sources sources′ reached reached′ r → r .verdict .number ≡ 0
         → totals′ ≡ plusGroup summing totals (groupAnswer (r .group) (temperaturesAt s) (r .coefficients))
         → GroupsPassed s summing sources′ reached′ totals′ link (r .next) (count + 1)
     unfolding plusGroup if_then_else
-    group-passed {link = g} p z t y d =
+    group-passed {summing} {totals = totals} {link = g} {r = r} p z t y d =
         let q = t .passed y in
         let a = t .told (p .gs) (p .sources-are) (p .holder-is) .all y in
         record {
@@ -81,9 +94,11 @@ module _ (s : List ℕ) where
           count-is = omega (arith, p .count-is);
           sources-are = q .source-marked ∙ ap (λ (l : List Bool). set l g true) (p .sources-are);
           reached-are = q .slots-marked ∙ ap (λ (l : List Bool). marksTo s g (set l g true) 6) (p .reached-are) ∙ group-marked (p .gs) g;
+          room = ap length d ∙ group-room summing totals (groupAnswer (r .group) (temperaturesAt s) (r .coefficients)) (p .room);
           sums-are = λ e.
-              d ∙ simp e
-              ((λ i. plusTo (p .sums-are e i) (groupAnswer (q .group i) (temperaturesAt s) (q .coefficients i) .emissions) 6)
+              ap totalsIn d ∙ simp e
+              (plus-to-held totals (groupAnswer (r .group) (temperaturesAt s) (r .coefficients) .emissions) (p .room) 6 .1
+              ∙ (λ i. plusTo (p .sums-are e i) (groupAnswer (q .group i) (temperaturesAt s) (q .coefficients i) .emissions) 6)
               ∙ ap (λ l. plusTo (sumsOf s (p .gs) []) l 6) (group-answered s (p .gs) g a h)
               ∙ group-summed (p .gs) g);
         }
@@ -124,19 +139,19 @@ module _ (s : List ℕ) (h : AllYes (headAsks s)) where
         different-short (slotCount s) (ss ++ gs) (sized s h) (stores-differ s gs ss _ link (groups-differ s gs _ 0 (v .chain) (v .good)) (w .chain) (w .good)),
       )
 
-  pub stores-ended : {summing : Bool} {sources reached : List Bool} {totals : Totals} {holder link groups stores : ℕ} {v : Verdict}
+  pub stores-ended : {summing : Bool} {sources reached : List Bool} {totals : List ℕ} {holder link groups stores : ℕ} {v : Verdict}
       → StoresPassed s summing sources reached totals holder link groups stores → link ≡ 0
-      → StoresEnded s summing reached (record { verdict = v; totals = totals; groups = groups; stores = stores })
+      → StoresEnded s summing reached totals (record { verdict = v; groups = groups; stores = stores })
   stores-ended {summing} {sources} {reached} {totals} {holder} {link} {groups} {stores} p z =
       record { sources = sources; holder = holder; passed = subst (λ (k : ℕ). StoresPassed s summing sources reached totals holder k groups stores) z p }
 
-  pub store-passed : {summing : Bool} {sources sources′ reached reached′ : List Bool} {totals totals′ : Totals} {holder link groups stores : ℕ} {r : StoreStep}
+  pub store-passed : {summing : Bool} {sources sources′ reached reached′ : List Bool} {totals totals′ : List ℕ} {holder link groups stores : ℕ} {r : StoreStep}
       → StoresPassed s summing sources reached totals holder link groups stores → (link ≡ 0 → ⊥)
       → StoreStepped s holder link sources sources′ reached reached′ r → r .verdict .number ≡ 0
       → totals′ ≡ plusStore summing totals (r .read)
       → StoresPassed s summing sources′ reached′ totals′ link (r .next) groups (stores + 1)
   unfolding plusStore if_then_else
-  store-passed {link = k} p z t y d =
+  store-passed {summing} {totals = totals} {link = k} {r = r} p z t y d =
       let q = t .passed y in
       let a = t .told (p .gs) (p .ss) (p .sources-are) (p .holder-is) .all y in
       record {
@@ -149,5 +164,10 @@ module _ (s : List ℕ) (h : AllYes (headAsks s)) where
         stores-are = omega (arith, p .stores-are);
         sources-are = q .source-marked ∙ ap (λ (l : List Bool). set l k true) (p .sources-are);
         reached-are = q .slot-marked ∙ ap (λ (l : List Bool). set l k true) (p .reached-are);
-        sums-are = λ e. d ∙ simp e ((λ i. plusEmission (p .sums-are e i) (storeEmission (t .read i))) ∙ store-summed s (p .gs) (p .ss) k a);
+        room = ap length d ∙ store-room summing totals (r .read) (p .room);
+        sums-are = λ e.
+            ap totalsIn d ∙ simp e
+            (plus-held totals (storeEmission (r .read)) (p .room) .1
+            ∙ (λ i. plusEmission (p .sums-are e i) (storeEmission (t .read i)))
+            ∙ store-summed s (p .gs) (p .ss) k a);
       }

@@ -22,8 +22,7 @@ use Rattle.slot_file.specs.Meaning.{AllYes, Groups, Stores, Accepts, Refuses}
 use Rattle.slot_file.specs.Figures.{groupContributions, storeContributions}
 use Rattle.slot_file.specs.Alike.{total}
 use Rattle.slot_file.specs.Parts.{marksOf, annualTo, peakTo}
-use Rattle.totals.specs.Totals.{totalsOf, plusEmission, plusTo}
-use Rattle.totals.specs.declared.Totals.{Totals}
+use Rattle.totals.specs.Totals.{Totals, totalsOf, noNumbers, totalsIn, plusIn, plusToIn}
 use Rattle.walk.specs.declared.walked.Walked.{Walked}
 
 -- the units that the groups gs and the store records ss of a file have together
@@ -35,34 +34,36 @@ unitsOf f s gs ss =
 abbrev pub sumsOf : List ℕ → List ℕ → List ℕ → Totals
 sumsOf s gs ss = totalsOf (λ (c : ℕ). unitsOf (annualTo c) s gs ss) (λ (c : ℕ). unitsOf (peakTo c) s gs ss)
 
-unfoldable pub plusGroup : Bool → Totals → GroupAnswer → Totals
-plusGroup summing t a = if_then_else summing (plusTo t (a .emissions) 6) t
+unfoldable pub plusGroup : Bool → List ℕ → GroupAnswer → List ℕ
+plusGroup summing l a = if_then_else summing (plusToIn l (a .emissions) 6) l
 
--- where the group chain begins: questions 1 to 5 are answered yes and nothing is marked but slot 0
-pub record GroupsBegin (s : List ℕ) (sources reached : List Bool) (h : Header) : Type 0 where
+-- where the group chain begins: questions 1 to 5 are answered yes, nothing is marked but slot 0 and nothing is summed
+pub record GroupsBegin (s : List ℕ) (sources reached : List Bool) (totals : List ℕ) (h : Header) : Type 0 where
   pub head : AllYes (headAsks s)
   pub header : h ≡ headerOf (slotOf s 0)
   pub none-marked : sources ≡ marksOf []
   pub none-reached : reached ≡ marksOf []
+  pub none-summed : totals ≡ noNumbers
 
 -- the groups gs are passed, and the chain goes on at the link
-pub record GroupsPassed (s : List ℕ) (summing : Bool) (sources reached : List Bool) (totals : Totals) (holder link count : ℕ) : Type 0 where
+pub record GroupsPassed (s : List ℕ) (summing : Bool) (sources reached : List Bool) (totals : List ℕ) (holder link count : ℕ) : Type 0 where
   pub gs : List ℕ
   pub chain : Groups s gs link
   pub holder-is : holder ≡ lastOf gs
   pub count-is : count ≡ length gs
   pub sources-are : sources ≡ marksOf gs
   pub reached-are : reached ≡ marksOf (reachedBy s gs)
-  pub sums-are : summing ≡ true → totals ≡ sumsOf s gs []
+  pub room : length totals ≡ 40
+  pub sums-are : summing ≡ true → totalsIn totals ≡ sumsOf s gs []
 
 -- and the chain is at its end
-pub record GroupsEnded (s : List ℕ) (summing : Bool) (sources reached : List Bool) (totals : Totals) (count : ℕ) : Type 0 where
+pub record GroupsEnded (s : List ℕ) (summing : Bool) (sources reached : List Bool) (totals : List ℕ) (count : ℕ) : Type 0 where
   pub holder : ℕ
   pub passed : GroupsPassed s summing sources reached totals holder 0 count
 
-pub record GroupsWalked (s : List ℕ) (summing : Bool) (sources reached : List Bool) (r : Walked) : Type 0 where
+pub record GroupsWalked (s : List ℕ) (summing : Bool) (sources reached : List Bool) (totals : List ℕ) (r : Walked) : Type 0 where
   pub refused : (r .verdict .number ≡ 0 → ⊥) → Refuses s (r .verdict .number) (r .verdict .slot)
-  pub ended : r .verdict .number ≡ 0 → GroupsEnded s summing sources reached (r .totals) (r .groups)
+  pub ended : r .verdict .number ≡ 0 → GroupsEnded s summing sources reached totals (r .groups)
 
 -- what a store record's rule answers
 unfoldable pub recordEmission : Store → Emission
@@ -75,17 +76,17 @@ storeEmission (Record r) = recordEmission r
 storeEmission WrongKind = noEmission
 storeEmission OutOfRange = noEmission
 
-unfoldable pub plusStore : Bool → Totals → StoreRead → Totals
-plusStore summing t r = if_then_else summing (plusEmission t (storeEmission r)) t
+unfoldable pub plusStore : Bool → List ℕ → StoreRead → List ℕ
+plusStore summing l r = if_then_else summing (plusIn l (storeEmission r)) l
 
 -- where the store chain begins: the group chain has ended
-pub record StoresBegin (s : List ℕ) (summing : Bool) (sources reached : List Bool) (h : Header) (start : Walked) : Type 0 where
+pub record StoresBegin (s : List ℕ) (summing : Bool) (sources reached : List Bool) (totals : List ℕ) (h : Header) (start : Walked) : Type 0 where
   pub head : AllYes (headAsks s)
   pub header : h ≡ headerOf (slotOf s 0)
-  pub groups : GroupsEnded s summing sources reached (start .totals) (start .groups)
+  pub groups : GroupsEnded s summing sources reached totals (start .groups)
 
 -- the groups gs and the store records ss are passed, and the store chain goes on at the link
-pub record StoresPassed (s : List ℕ) (summing : Bool) (sources reached : List Bool) (totals : Totals) (holder link groups stores : ℕ) : Type 0 where
+pub record StoresPassed (s : List ℕ) (summing : Bool) (sources reached : List Bool) (totals : List ℕ) (holder link groups stores : ℕ) : Type 0 where
   pub gs : List ℕ
   pub ss : List ℕ
   pub group-chain : Groups s gs 0
@@ -95,27 +96,29 @@ pub record StoresPassed (s : List ℕ) (summing : Bool) (sources reached : List 
   pub stores-are : stores ≡ length ss
   pub sources-are : sources ≡ marksOf (ss ++ gs)
   pub reached-are : reached ≡ marksOf (ss ++ reachedBy s gs)
-  pub sums-are : summing ≡ true → totals ≡ sumsOf s gs ss
+  pub room : length totals ≡ 40
+  pub sums-are : summing ≡ true → totalsIn totals ≡ sumsOf s gs ss
 
 -- and both chains are at their ends
-pub record StoresEnded (s : List ℕ) (summing : Bool) (reached : List Bool) (r : Walked) : Type 0 where
+pub record StoresEnded (s : List ℕ) (summing : Bool) (reached : List Bool) (totals : List ℕ) (r : Walked) : Type 0 where
   pub sources : List Bool
   pub holder : ℕ
-  pub passed : StoresPassed s summing sources reached (r .totals) holder 0 (r .groups) (r .stores)
+  pub passed : StoresPassed s summing sources reached totals holder 0 (r .groups) (r .stores)
 
-pub record StoresWalked (s : List ℕ) (summing : Bool) (reached : List Bool) (r : Walked) : Type 0 where
+pub record StoresWalked (s : List ℕ) (summing : Bool) (reached : List Bool) (totals : List ℕ) (r : Walked) : Type 0 where
   pub refused : (r .verdict .number ≡ 0 → ⊥) → Refuses s (r .verdict .number) (r .verdict .slot)
-  pub ended : r .verdict .number ≡ 0 → StoresEnded s summing reached r
+  pub ended : r .verdict .number ≡ 0 → StoresEnded s summing reached totals r
 
 -- a file that nothing is refused of
-pub record FileAccepted (s : List ℕ) (summing : Bool) (r : Walked) : Type 0 where
+pub record FileAccepted (s : List ℕ) (summing : Bool) (totals : List ℕ) (r : Walked) : Type 0 where
   pub gs : List ℕ
   pub ss : List ℕ
   pub accepts : Accepts s gs ss
   pub groups-are : r .groups ≡ length gs
   pub stores-are : r .stores ≡ length ss
-  pub sums-are : summing ≡ true → r .totals ≡ sumsOf s gs ss
+  pub room : length totals ≡ 40
+  pub sums-are : summing ≡ true → totalsIn totals ≡ sumsOf s gs ss
 
-pub record FileWalked (s : List ℕ) (summing : Bool) (r : Walked) : Type 0 where
+pub record FileWalked (s : List ℕ) (summing : Bool) (totals : List ℕ) (r : Walked) : Type 0 where
   pub refused : (r .verdict .number ≡ 0 → ⊥) → Refuses s (r .verdict .number) (r .verdict .slot)
-  pub accepted : r .verdict .number ≡ 0 → FileAccepted s summing r
+  pub accepted : r .verdict .number ≡ 0 → FileAccepted s summing totals r

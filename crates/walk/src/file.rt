@@ -6,6 +6,7 @@ ghost use Rattle.slots.specs.Layout.{headerOf};
 ghost use Rattle.slot_file.specs.Walk.{verdict, told};
 ghost use Rattle.slot_file.specs.Figures as figures;
 ghost use Rattle.slot_file.specs.Parts.{marksOf};
+ghost use Rattle.totals.specs.Totals.{noNumbers};
 ghost use Rattle.walk.specs.Walked.{FileWalked};
 use super::groups;
 use super::questions;
@@ -14,7 +15,6 @@ use super::walked::Walked;
 use slot_file::Answer;
 use slots::Header;
 use sums::Verdict;
-use totals::Totals;
 
 fn header_of(file: &[u8]) -> Header
     ensures { λ r. ⌜ r ≡ headerOf (slotOf (now (file .entry)) 0) ⌝ }
@@ -31,36 +31,34 @@ fn no_marks() -> [bool; 1024]
     marks
 }
 
-// Questions 1 to 12 in order; where nothing is refused, the counts, and the sums where they are wanted.
-fn walk_file(file: &[u8], summing: bool) -> Walked
-    ensures { λ r. ⌜ FileWalked (now (file .entry)) summing r ⌝ }
+// Questions 1 to 12 in order; where nothing is refused, the counts, and in `totals` the sums where they are wanted.
+fn walk_file(file: &[u8], totals: &mut [u64], summing: bool) -> Walked
+    requires { ⌜ now totals ≡ noNumbers ⌝ }
+    ensures { λ r. ⌜ FileWalked (now (file .entry)) summing (now (totals .exit)) r ⌝ }
 {
     let h = header_of(file);
     let verdict = questions::ask_head(file, h);
     if verdict.number != 0 {
         return Walked {
             verdict,
-            totals: Totals::zero(),
             groups: 0,
             stores: 0,
         };
     }
     let mut sources = no_marks();
     let mut reached = no_marks();
-    let groups = groups::walk_groups(file, &mut sources, &mut reached, h, summing);
+    let groups = groups::walk_groups(file, &mut sources, &mut reached, totals, h, summing);
     let verdict = groups.verdict;
     if verdict.number != 0 {
         return groups;
     }
-    let both = records::walk_stores(file, &mut sources, &mut reached, h, summing, groups);
+    let both = records::walk_stores(file, &mut sources, &mut reached, totals, h, summing, groups);
     let verdict = both.verdict;
     if verdict.number != 0 {
         return both;
     }
-    let totals = both.totals;
     Walked {
         verdict: questions::ask_reached(&reached, file.len() / 64),
-        totals,
         groups: both.groups,
         stores: both.stores,
     }
@@ -70,7 +68,8 @@ fn walk_file(file: &[u8], summing: bool) -> Walked
 pub fn check(file: &[u8]) -> Verdict
     ensures { λ r. ⌜ r ≡ told (verdict (now (file .entry))) ⌝ }
 {
-    let walked = walk_file(file, false);
+    let mut totals = totals::none();
+    let walked = walk_file(file, &mut totals, false);
     let verdict = walked.verdict;
     if verdict.number != 0 {
         return verdict;
@@ -82,13 +81,13 @@ pub fn check(file: &[u8]) -> Verdict
 pub fn answer(file: &[u8]) -> Answer
     ensures { λ r. ⌜ r ≡ figures.answer (now (file .entry)) ⌝ }
 {
-    let walked = walk_file(file, true);
+    let mut totals = totals::none();
+    let walked = walk_file(file, &mut totals, true);
     let verdict = walked.verdict;
     if verdict.number != 0 {
         return Answer::refusal(verdict.number, verdict.slot);
     }
-    let totals = walked.totals;
-    let figures = totals.figures();
+    let figures = totals::rounded(&totals);
     let annual = figures.annual;
     let peak = figures.peak;
     Answer {

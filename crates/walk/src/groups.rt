@@ -10,7 +10,6 @@ use super::rows;
 use super::walked::Walked;
 use slots::Header;
 use sums::Verdict;
-use totals::Totals;
 use vehicles::Coefficients;
 use vehicles::Group;
 
@@ -59,17 +58,15 @@ fn step_group(
 }
 
 // With a group's emissions, where sums are wanted.
-fn plus_group(totals: Totals, summing: bool, temperatures: [i16; 12], step: GroupStep) -> Totals
-    ensures { λ r. ⌜ r ≡ plusGroup summing totals (groupAnswer (step .group) temperatures (step .coefficients)) ⌝ }
+fn plus_group(totals: &mut [u64], summing: bool, temperatures: [i16; 12], step: GroupStep)
+    ensures { λ _. ⌜ now (totals .exit) ≡ plusGroup summing (now (totals .entry)) (groupAnswer (step .group) temperatures (step .coefficients)) ⌝ }
 {
     if summing {
         let group = step.group;
         let coefficients = step.coefficients;
         let answer = vehicles::group_emissions(group, temperatures, coefficients);
         let emissions = answer.emissions;
-        totals.plus_all(emissions)
-    } else {
-        totals
+        totals::add_all(totals, emissions);
     }
 }
 
@@ -78,14 +75,14 @@ pub(crate) fn walk_groups(
     file: &[u8],
     sources: &mut [bool; 1024],
     reached: &mut [bool; 1024],
+    totals: &mut [u64],
     h: Header,
     summing: bool,
 ) -> Walked
-    requires { ⌜ GroupsBegin (now file) (now sources) (now reached) h ⌝ }
-    ensures { λ r. ⌜ GroupsWalked (now (file .entry)) summing (now (sources .exit)) (now (reached .exit)) r ⌝ }
+    requires { ⌜ GroupsBegin (now file) (now sources) (now reached) (now totals) h ⌝ }
+    ensures { λ r. ⌜ GroupsWalked (now (file .entry)) summing (now (sources .exit)) (now (reached .exit)) (now (totals .exit)) r ⌝ }
 {
     let temperatures = h.temperatures;
-    let mut totals = Totals::zero();
     let mut holder = 0;
     let mut link = h.groups;
     let mut count = 0;
@@ -95,19 +92,17 @@ pub(crate) fn walk_groups(
         if verdict.number != 0 {
             return Walked {
                 verdict,
-                totals,
                 groups: count,
                 stores: 0,
             };
         }
-        totals = plus_group(totals, summing, temperatures, step);
+        plus_group(totals, summing, temperatures, step);
         holder = link;
         link = step.next;
         count += 1;
     }
     Walked {
         verdict: questions::accept(),
-        totals,
         groups: count,
         stores: 0,
     }

@@ -12,7 +12,6 @@ use slots::Store;
 use slots::StoreRead;
 use sums::Emission;
 use sums::Verdict;
-use totals::Totals;
 
 // What a link to a store record was told, the record, and the next link.
 pub(crate) struct StoreStep {
@@ -91,13 +90,11 @@ fn store_emission(read: StoreRead) -> Emission
 }
 
 // With a store record's emission, where sums are wanted.
-fn plus_store(totals: Totals, summing: bool, read: StoreRead) -> Totals
-    ensures { λ r. ⌜ r ≡ plusStore summing totals read ⌝ }
+fn plus_store(totals: &mut [u64], summing: bool, read: StoreRead)
+    ensures { λ _. ⌜ now (totals .exit) ≡ plusStore summing (now (totals .entry)) read ⌝ }
 {
     if summing {
-        totals.plus(store_emission(read))
-    } else {
-        totals
+        totals::add(totals, store_emission(read));
     }
 }
 
@@ -106,15 +103,15 @@ pub(crate) fn walk_stores(
     file: &[u8],
     sources: &mut [bool; 1024],
     reached: &mut [bool; 1024],
+    totals: &mut [u64],
     h: Header,
     summing: bool,
     start: Walked,
 ) -> Walked
-    requires { ⌜ StoresBegin (now file) summing (now sources) (now reached) h start ⌝ }
-    ensures { λ r. ⌜ StoresWalked (now (file .entry)) summing (now (reached .exit)) r ⌝ }
+    requires { ⌜ StoresBegin (now file) summing (now sources) (now reached) (now totals) h start ⌝ }
+    ensures { λ r. ⌜ StoresWalked (now (file .entry)) summing (now (reached .exit)) (now (totals .exit)) r ⌝ }
 {
     let groups = start.groups;
-    let mut totals = start.totals;
     let mut holder = 0;
     let mut link = h.stores;
     let mut count = 0;
@@ -124,20 +121,18 @@ pub(crate) fn walk_stores(
         if verdict.number != 0 {
             return Walked {
                 verdict,
-                totals,
                 groups,
                 stores: count,
             };
         }
         let read = step.read;
-        totals = plus_store(totals, summing, read);
+        plus_store(totals, summing, read);
         holder = link;
         link = step.next;
         count += 1;
     }
     Walked {
         verdict: questions::accept(),
-        totals,
         groups,
         stores: count,
     }

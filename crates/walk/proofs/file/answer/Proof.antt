@@ -10,28 +10,31 @@ use Rattle.slot_file.proofs.Verdicts.{only}
 use Rattle.slot_file.proofs.Numbers.{refused-answer}
 use Rattle.slot_file.proofs.Agreement.{accepted-answer}
 use Rattle.totals.specs.Totals.{figuresOf}
+use Rattle.totals.proofs.Forty.{figures-held}
 use Rattle.walk.proofs.FileFigures.{file-figures}
 use Rattle.walk.proofs.file.answer.Statement.{statement}
 use Rattle.walk.proofs.file.answer.Tie as tie
 
 returns : tie.Need-returns
 returns c =
-    let w = c .before .before .before .before in
+    let w = c .before .before .before .before .before in
     let v = w .walk-file .result .verdict in
-    let s = w .before .before .args .file .now in
+    let s = w .before .before .before .before .args .file .now in
     c .refusal .ensures ∙ sym (refused-answer s (v .number) (v .slot) (only s (refused (v .number) (v .slot)) (w .walk-file .ensures .refused (c .before .if1 .taken))) .0)
 
 returns-2 : tie.Need-returns-2
 unfolding summed groupsAt storesAt
 returns-2 c =
-    let w = c .before .before .before .before .before .before .before in
-    let s = w .before .before .args .file .now in
+    let w = c .before .before .before .before .before .before .before .before in
+    let s = w .before .before .before .before .args .file .now in
     let a = w .walk-file .ensures .accepted (c .before .before .before .before .if1 .left) in
-    let f = c .before .before .figures .ensures ∙ ap figuresOf (a .sums-are refl) ∙ file-figures s (a .gs) (a .ss) (a .accepts) in
+    let f = c .before .before .rounded .ensures ∙ figures-held _ (a .room) ∙ ap figuresOf (a .sums-are refl) ∙ file-figures s (a .gs) (a .ss) (a .accepts) in
     let g = a .groups-are ∙ sym (length-map (reverse (a .gs)) (groupAt s) ∙ length-reverse (a .gs)) in
     let k = a .stores-are ∙ sym (length-map (reverse (a .ss)) (storeAt s) ∙ length-reverse (a .ss)) in
     (λ i. record { number = 0; slot = 0; annual = f i .annual; peak = f i .peak; groups = g i; stores = k i })
     ∙ sym (accepted-answer s (a .gs) (a .ss) (only s (accepted (a .gs) (a .ss)) (a .accepts)))
 
 pub answer-spec : {M : Type 1} → statement M
-answer-spec = tie.close (tie.spec (search needs) (search needs) returns (search needs) returns-2)
+answer-spec =
+    tie.close
+    (tie.spec (search needs) (search needs) (λ c κs. c .before .none .ensures) (search needs) returns (search needs) (search needs) returns-2)

@@ -9,14 +9,14 @@ use Rattle.walk.proofs.file.check.Tie as tie
 
 returns : tie.Need-returns
 returns c =
-    let w = c .before .before .before in
+    let w = c .before .before .before .before in
     let v = w .walk-file .result .verdict in
     sym (ap (λ (x : Verdict). told x) (only _ (refused (v .number) (v .slot)) (w .walk-file .ensures .refused (c .if1 .taken))))
 
 returns-2 : tie.Need-returns-2
 returns-2 c =
-    let a = c .before .before .before .before .walk-file .ensures .accepted (c .before .if1 .left) in
+    let a = c .before .before .before .before .before .walk-file .ensures .accepted (c .before .if1 .left) in
     c .accept .ensures ∙ sym (ap (λ (x : Verdict). told x) (only _ (accepted (a .gs) (a .ss)) (a .accepts)))
 
 pub check-spec : {M : Type 1} → statement M
-check-spec = tie.close (tie.spec (search needs) returns (search needs) returns-2)
+check-spec = tie.close (tie.spec (search needs) (search needs) (λ c κs. c .before .none .ensures) returns (search needs) returns-2)

@@ -7,43 +7,44 @@ use Rattle.walk.proofs.file.walk_file.Statement.{statement}
 use Rattle.walk.proofs.file.walk_file.Tie as tie
 
 returns : tie.Need-returns
-returns c = record { refused = λ z. at-head (c .before .before .before .ask-head .ensures .first z); accepted = λ y. absurd (c .before .if1 .taken y) }
+returns c = record { refused = λ z. at-head (c .before .before .ask-head .ensures .first z); accepted = λ y. absurd (c .if1 .taken y) }
 
 walk-groups-requires : tie.Need-walk-groups-requires
-walk-groups-requires c κs = record {
-  head = c .before .before .before .before .before .before .ask-head .ensures .all (c .before .before .before .before .if1 .left);
-  header = c .before .before .before .before .before .before .before .header-of .ensures;
-  none-marked = c .before .before .before .no-marks .ensures;
-  none-reached = c .before .before .no-marks2 .ensures;
-}
+walk-groups-requires c κs =
+    let a = c .before .before .before .before .before in
+    record {
+      head = a .before .before .ask-head .ensures .all (a .if1 .left);
+      header = a .before .before .before .header-of .ensures;
+      none-marked = c .before .before .before .before .no-marks .ensures;
+      none-reached = c .before .before .before .no-marks2 .ensures;
+      none-summed = a .before .before .before .before .before .before .pre;
+    }
 
 returns-2 : tie.Need-returns-2
-returns-2 c = record { refused = c .before .before .before .walk-groups .ensures .refused; accepted = λ y. absurd (c .if2 .taken y) }
+returns-2 c = record { refused = c .before .before .before .before .before .walk-groups .ensures .refused; accepted = λ y. absurd (c .if2 .taken y) }
 
 walk-stores-requires : tie.Need-walk-stores-requires
 walk-stores-requires c κs =
-    let d = c .before .before .before .before .before in
-    let b = d .before .before .before .before .before in
+    let d = c .before .before .before .before .before .before .before .before in
+    let b = d .before .before .before .before .before .before in
     record {
       head = b .before .before .ask-head .ensures .all (b .if1 .left);
       header = b .before .before .before .header-of .ensures;
-      groups = d .walk-groups .ensures .ended (c .before .before .if2 .left);
+      groups = d .walk-groups .ensures .ended (c .before .before .before .if2 .left);
     }
 
 returns-3 : tie.Need-returns-3
-returns-3 c = record { refused = c .before .before .before .walk-stores .ensures .refused; accepted = λ y. absurd (c .if3 .taken y) }
+returns-3 c = record { refused = c .before .before .before .before .before .walk-stores .ensures .refused; accepted = λ y. absurd (c .if3 .taken y) }
 
 ask-reached-requires : tie.Need-ask-reached-requires
-ask-reached-requires c κs =
-    let b = c .before .before .before .before .before .before .before .before .before .before .before .before .before .before .before .before in
-    sized _ (b .before .before .ask-head .ensures .all (b .if1 .left))
+ask-reached-requires c κs = let b = c .before .before .before .before .before .before .before .before .before .before .before .before .before .before .before .before .before .before .before .before .before in sized _ (b .before .before .ask-head .ensures .all (b .if1 .left))
 
 returns-4 : tie.Need-returns-4
 unfolding lastAsks
 returns-4 c =
-    let b = c .before .before .before .before .before .before .before .before .before .before .before .before .before .before .before .before .before in
+    let b = c .before .before .before .before .before .before .before .before .before .before .before .before .before .before .before .before .before .before .before .before .before .before in
     let h = b .before .before .ask-head .ensures .all (b .if1 .left) in
-    let p = c .before .before .before .before .before .before .walk-stores .ensures .ended (c .before .before .before .if3 .left) .passed in
+    let p = c .before .before .before .before .before .before .before .walk-stores .ensures .ended (c .before .before .if3 .left) .passed in
     let t = c .ask-reached .ensures _ (p .reached-are) in
     record {
       refused = λ z. at-last (p .gs) (p .ss) h (p .group-chain) (p .chain) (t .first z);
@@ -53,6 +54,7 @@ returns-4 c =
         accepts = record { head = h; groups = p .group-chain; stores = p .chain; last = t .all y };
         groups-are = p .groups-are;
         stores-are = p .stores-are;
+        room = p .room;
         sums-are = p .sums-are;
       };
     }
@@ -60,5 +62,5 @@ returns-4 c =
 pub walk-file-spec : {M : Type 1} → statement M
 walk-file-spec =
     tie.close
-    (tie.spec (search needs) (λ c κs. c .header-of .ensures) (search needs) returns (search needs) (search needs) walk-groups-requires returns-2 walk-stores-requires returns-3
-    ask-reached-requires returns-4)
+    (tie.spec (search needs) (λ c κs. c .header-of .ensures) returns (search needs) (search needs) walk-groups-requires (search needs) returns-2
+    walk-stores-requires (search needs) returns-3 ask-reached-requires (search needs) returns-4)

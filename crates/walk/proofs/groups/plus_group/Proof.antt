@@ -3,18 +3,23 @@ use borrow.Author.Needs.{needs}
 use mathlib.Core.Path.{refl, ap, _∙_}
 use Rattle.sums.proofs.Choices.{yes, no}
 use Rattle.vehicles.specs.declared.rule.GroupAnswer.{GroupAnswer}
-use Rattle.totals.specs.Totals.{plusTo}
+use Rattle.totals.specs.Totals.{plusToIn}
 use Rattle.walk.specs.Walked.{plusGroup}
 use Rattle.walk.proofs.groups.plus_group.Statement.{statement}
 use Rattle.walk.proofs.groups.plus_group.Tie as tie
 
-pub plus-group-spec : {M : Type 1} → statement M
+returns : tie.Need-returns
 unfolding plusGroup
-plus-group-spec =
-    tie.close
-    (tie.spec (search needs) (search needs)
-    (λ c.
-    let b = c .before .before in
-    let t = b .before .before .before .before .args .totals in
-    yes _ _ _ _ (b .before .before .before .if1 .taken) (c .plus-all .ensures ∙ ap (λ (a : GroupAnswer). plusTo t (a .emissions) 6) (b .group-emissions .ensures)))
-    (λ c. no _ _ _ _ (c .if1 .left) refl))
+returns c =
+    let a = c .before .before in
+    let g = a .before .before .before in
+    let b = g .before .before .before in
+    let l = b .before .before .args .totals .now in
+    yes _ _ _ _ (b .if1 .taken) (a .add-all .ensures ∙ ap (λ (r : GroupAnswer). plusToIn l (r .emissions) 6) (g .group-emissions .ensures))
+
+returns-2 : tie.Need-returns-2
+unfolding plusGroup
+returns-2 c = no _ _ _ _ (c .if1 .left) refl
+
+pub plus-group-spec : {M : Type 1} → statement M
+plus-group-spec = tie.close (tie.spec (search needs) (search needs) (search needs) returns returns-2)

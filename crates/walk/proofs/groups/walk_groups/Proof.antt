@@ -3,9 +3,10 @@
 use borrow.Author.Needs.{needs}
 use native.Mathlib.Omega.{arith}
 use Prim.Native.Nat.{_-_}
-use mathlib.Core.Path.{refl, ap, _∙_}
+use mathlib.Core.Path.{refl, sym, ap, _∙_}
 use mathlib.Core.List.{List, []}
 use lib.IntN.{ℤ}
+use lib.ListN.{length}
 use Rattle.sums.specs.declared.answer.Verdict.{Verdict}
 use Rattle.vehicles.specs.Rules.{groupAnswer}
 use Rattle.slots.specs.declared.header.Header.{Header}
@@ -13,17 +14,18 @@ use Rattle.slot_file.specs.Sources.{temperaturesAt}
 use Rattle.slot_file.specs.Questions.{reachedBy}
 use Rattle.slot_file.specs.Meaning.{at-group}
 use Rattle.slot_file.proofs.Verdicts.{bytes-most}
+use Rattle.totals.specs.Totals.{totalsIn}
 use Rattle.walk.specs.Walked.{plusGroup, GroupsPassed}
 use Rattle.walk.proofs.Passing.{no-sums, groups-short, groups-ended, group-passed}
 use Rattle.walk.proofs.groups.walk_groups.Statement.{statement}
 use Rattle.walk.proofs.groups.walk_groups.Tie as tie
 
 abbrev Inv-loop : tie.InvT-loop
-Inv-loop file sources₀ reached₀ summing temperatures totals₀ holder₀ link₀ count₀ sources reached totals holder link count =
+Inv-loop file sources₀ reached₀ totals₀ summing temperatures holder₀ link₀ count₀ sources reached totals holder link count =
     GroupsPassed file summing sources reached totals holder link count
 
 abbrev μ-loop : tie.MeasureT-loop
-μ-loop file sources₀ reached₀ summing temperatures totals₀ holder₀ link₀ count₀ sources reached totals holder link count = 1024 - count
+μ-loop file sources₀ reached₀ totals₀ summing temperatures holder₀ link₀ count₀ sources reached totals holder link count = 1024 - count
 
 loop-holds : tie.Need-loop-holds Inv-loop μ-loop
 unfolding reachedBy
@@ -36,11 +38,15 @@ loop-holds c =
       count-is = refl;
       sources-are = b .none-marked;
       reached-are = b .none-reached;
-      sums-are = λ _. c .zero .ensures ∙ no-sums (c .before .before .before .args .file .now);
+      room = ap length (b .none-summed);
+      sums-are = λ _. ap totalsIn (b .none-summed) ∙ no-sums (c .before .before .before .args .file .now);
     }
 
 step-group-requires : tie.Need-step-group-requires Inv-loop μ-loop
 step-group-requires c κs = (bytes-most _ (c .before .before .before .before .before .before .before .pre .head), c .before .before .loop-test .taken)
+
+same-length : tie.Need-same-length Inv-loop μ-loop
+same-length c = c .before .before .before .before .before .before .before .loop .inv .room ∙ sym (ap length (c .before .before .before .before .before .before .before .before .before .before .before .pre .none-summed))
 
 returns : tie.Need-returns Inv-loop μ-loop
 returns c =
@@ -55,24 +61,27 @@ returns c =
 
 add-count : tie.Need-add-count Inv-loop μ-loop
 add-count c =
-    let b = c .before .before .before .before .before .before .before .before in
+    let b = c .before .before .before .before .before .before .before .before .before .before .before in
     omega (arith, groups-short _ (b .before .before .before .before .pre .head) (b .loop .inv .chain), b .loop .inv .count-is)
 
 loop-less : tie.Need-loop-less Inv-loop μ-loop
 loop-less c =
-    let b = c .before .before .before .before .before .before .before .before in
+    let b = c .before .before .before .before .before .before .before .before .before .before .before in
     omega (arith, groups-short _ (b .before .before .before .before .pre .head) (b .loop .inv .chain), b .loop .inv .count-is)
 
 loop-again : tie.Need-loop-again Inv-loop μ-loop
 unfolding temperaturesAt
 loop-again c =
-    let d = c .before .before .before .before in
+    let d = c .before .before .before .before .before .before .before in
     let b = d .before .before .before .before in
     let a = b .before .before .before .before in
     let r = d .step-group .result in
     let e = ap (λ (h : Header). h .temperatures) (a .pre .header) in
-    group-passed _ (a .pre .head) (b .loop .inv) (d .before .before .before .loop-test .taken) (d .step-group .ensures) (c .before .if1 .left)
-    (c .plus-group .ensures ∙ ap (λ (ts : List ℤ). plusGroup (a .args .summing) (b .loop .totals) (groupAnswer (r .group) ts (r .coefficients))) e)
+    group-passed _ (a .pre .head) (b .loop .inv) (d .before .before .before .loop-test .taken) (d .step-group .ensures) (c .before .before .before .before .if1 .left)
+    (c .before .before .plus-group .ensures ∙ ap (λ (ts : List ℤ). plusGroup (a .args .summing) (b .loop .totals) (groupAnswer (r .group) ts (r .coefficients))) e)
+
+same-length-2 : tie.Need-same-length-2 Inv-loop μ-loop
+same-length-2 c = c .before .before .loop .inv .room ∙ sym (ap length (c .before .before .before .before .before .before .pre .none-summed))
 
 returns-2 : tie.Need-returns-2 Inv-loop μ-loop
 returns-2 c =
@@ -85,4 +94,4 @@ returns-2 c =
 pub walk-groups-spec : {M : Type 1} → statement M
 walk-groups-spec =
     tie.close
-    (tie.spec Inv-loop μ-loop (search needs) loop-holds step-group-requires returns (search needs) add-count loop-less loop-again (search needs) returns-2)
+    (tie.spec Inv-loop μ-loop loop-holds step-group-requires same-length returns (search needs) add-count loop-less loop-again (search needs) same-length-2 returns-2)

@@ -2,17 +2,21 @@
 use borrow.Author.Needs.{needs}
 use mathlib.Core.Path.{refl, ap, _∙_}
 use Rattle.sums.proofs.Choices.{yes, no}
-use Rattle.totals.specs.Totals.{plusEmission}
+use Rattle.totals.specs.Totals.{plusIn}
 use Rattle.walk.specs.Walked.{plusStore}
 use Rattle.walk.proofs.records.plus_store.Statement.{statement}
 use Rattle.walk.proofs.records.plus_store.Tie as tie
 
-pub plus-store-spec : {M : Type 1} → statement M
+returns : tie.Need-returns
 unfolding plusStore
-plus-store-spec =
-    tie.close
-    (tie.spec (search needs) (search needs)
-    (λ c.
-    let b = c .before .before in
-    yes _ _ _ _ (b .if1 .taken) (c .plus .ensures ∙ ap (plusEmission (b .before .args .totals)) (c .before .store-emission .ensures)))
-    (λ c. no _ _ _ _ (c .if1 .left) refl))
+returns c =
+    let a = c .before .before in
+    let b = a .before .before .before in
+    yes _ _ _ _ (b .if1 .taken) (a .add .ensures ∙ ap (plusIn (b .before .before .args .totals .now)) (a .before .store-emission .ensures))
+
+returns-2 : tie.Need-returns-2
+unfolding plusStore
+returns-2 c = no _ _ _ _ (c .if1 .left) refl
+
+pub plus-store-spec : {M : Type 1} → statement M
+plus-store-spec = tie.close (tie.spec (search needs) (search needs) (search needs) returns returns-2)

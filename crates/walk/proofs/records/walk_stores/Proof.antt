@@ -3,7 +3,7 @@
 use borrow.Author.Needs.{needs}
 use native.Mathlib.Omega.{arith}
 use Prim.Native.Nat.{_-_}
-use mathlib.Core.Path.{refl, ap}
+use mathlib.Core.Path.{refl, sym, ap, _∙_}
 use mathlib.Core.List.{[]}
 use Rattle.sums.specs.declared.answer.Verdict.{Verdict}
 use Rattle.slots.specs.declared.header.Header.{Header}
@@ -15,11 +15,11 @@ use Rattle.walk.proofs.records.walk_stores.Statement.{statement}
 use Rattle.walk.proofs.records.walk_stores.Tie as tie
 
 abbrev Inv-loop : tie.InvT-loop
-Inv-loop file sources₀ reached₀ summing groups totals₀ holder₀ link₀ count₀ sources reached totals holder link count =
+Inv-loop file sources₀ reached₀ totals₀ summing groups holder₀ link₀ count₀ sources reached totals holder link count =
     StoresPassed file summing sources reached totals holder link groups count
 
 abbrev μ-loop : tie.MeasureT-loop
-μ-loop file sources₀ reached₀ summing groups totals₀ holder₀ link₀ count₀ sources reached totals holder link count = 1024 - count
+μ-loop file sources₀ reached₀ totals₀ summing groups holder₀ link₀ count₀ sources reached totals holder link count = 1024 - count
 
 loop-holds : tie.Need-loop-holds Inv-loop μ-loop
 loop-holds c =
@@ -35,11 +35,15 @@ loop-holds c =
       stores-are = refl;
       sources-are = p .sources-are;
       reached-are = p .reached-are;
+      room = p .room;
       sums-are = p .sums-are;
     }
 
 step-store-requires : tie.Need-step-store-requires Inv-loop μ-loop
 step-store-requires c κs = (bytes-most _ (c .before .before .before .before .before .before .pre .head), c .before .before .loop-test .taken)
+
+same-length : tie.Need-same-length Inv-loop μ-loop
+same-length c = c .before .before .before .before .before .before .before .loop .inv .room ∙ sym (c .before .before .before .before .before .before .before .before .before .before .pre .groups .passed .room)
 
 returns : tie.Need-returns Inv-loop μ-loop
 returns c =
@@ -54,22 +58,25 @@ returns c =
 
 add-count : tie.Need-add-count Inv-loop μ-loop
 add-count c =
-    let b = c .before .before .before .before .before .before .before .before in
+    let b = c .before .before .before .before .before .before .before .before .before .before .before in
     let p = b .loop .inv in
     omega (arith, stores-short _ (b .before .before .before .pre .head) (p .group-chain) (p .chain), p .stores-are)
 
 loop-less : tie.Need-loop-less Inv-loop μ-loop
 loop-less c =
-    let b = c .before .before .before .before .before .before .before .before in
+    let b = c .before .before .before .before .before .before .before .before .before .before .before in
     let p = b .loop .inv in
     omega (arith, stores-short _ (b .before .before .before .pre .head) (p .group-chain) (p .chain), p .stores-are)
 
 loop-again : tie.Need-loop-again Inv-loop μ-loop
 loop-again c =
-    let d = c .before .before .before .before in
+    let d = c .before .before .before .before .before .before .before in
     let b = d .before .before .before .before in
-    store-passed _ (b .before .before .before .pre .head) (b .loop .inv) (d .before .before .before .loop-test .taken) (d .step-store .ensures) (c .before .if1 .left)
-    (c .plus-store .ensures)
+    store-passed _ (b .before .before .before .pre .head) (b .loop .inv) (d .before .before .before .loop-test .taken) (d .step-store .ensures) (c .before .before .before .before .if1 .left)
+    (c .before .before .plus-store .ensures)
+
+same-length-2 : tie.Need-same-length-2 Inv-loop μ-loop
+same-length-2 c = c .before .before .loop .inv .room ∙ sym (c .before .before .before .before .before .pre .groups .passed .room)
 
 returns-2 : tie.Need-returns-2 Inv-loop μ-loop
 returns-2 c =
@@ -82,4 +89,4 @@ returns-2 c =
 pub walk-stores-spec : {M : Type 1} → statement M
 walk-stores-spec =
     tie.close
-    (tie.spec Inv-loop μ-loop loop-holds step-store-requires returns (search needs) add-count loop-less loop-again (search needs) returns-2)
+    (tie.spec Inv-loop μ-loop loop-holds step-store-requires same-length returns (search needs) add-count loop-less loop-again (search needs) same-length-2 returns-2)
