@@ -50,7 +50,7 @@ module _ (g : Group) (ts : List ℤ) (k : Coefficients) (hg : groupInRange g ≡
       let c = partsOf 100 (controlOf g p) in
       let r = ranged g hg in
       let a : yearParts g k c (activityOf g ts) * g .share * g .vehicles ≤ 8928000000000000000000 =
-      year-most g k c hg hk (control g p .most) (activityOf g ts) (activity-in-range g ts hg) ⊗ r .share ⊗ r .vehicles in
+      year-most g k c hg hk (control g p .most) (activityOf g ts) (activity-in-range g hg ts) ⊗ r .share ⊗ r .vehicles in
       let b : outParts g k c (conditionsAt g (lowestOf ts)) * g .leaving ≤ 150000000000000000 =
       out-most g k c hg hk (control g p .most) (conditionsAt g (lowestOf ts)) (conditions-in-range g (lowestOf ts)) ⊗ r .leaving in
       bounded (counted g ts k p) (omega arith) (omega arith)

@@ -1,5 +1,6 @@
--- The whole numbers are the paper's fractions: each formula by a term that is written as the formula is. A control factor y is c percent; the
--- twelve months have one factor, N times the share, which leaves their sum. Assumes nothing.
+-- The whole numbers are the paper's fractions: each formula by a term that is written as the formula is. A control factor y is c percent. What the
+-- periods give together is what the months give, by one month after the other; the months have one factor, N times the share, which leaves their sum.
+-- Assumes nothing.
 use Prim.Native.Nat.{ℕ, zero, suc, _+_, _*_, _<_}
 use native.Mathlib.Omega.{arith}
 use mathlib.Core.Path.{_≡_, ap, _∙_}
@@ -10,7 +11,7 @@ use lib.ListN.{getD}
 use Rattle.sums.specs.Choice.{sumTo, listTo}
 use Rattle.sums.specs.Fraction.{Frac, _over_, _≈_, partsOf}
 use Rattle.sums.specs.Figures.{tonneParts, gramParts}
-use Rattle.sums.proofs.Choices.{sumTo-times, listTo-at}
+use Rattle.sums.proofs.Choices.{sumTo-times}
 use Rattle.sums.proofs.Fractions.{≈-refl, ≈-⊙, ≈-⊞, ≈-per, ≈-over, totalTo-parts, parts}
 use Rattle.sums.proofs.Sources.{Counted}
 use Rattle.vehicles.specs.Fields.{noMinute, noKilometre}

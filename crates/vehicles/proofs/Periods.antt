@@ -68,23 +68,23 @@ module _ (k : Coefficients) (a : Activity) (h : coefficientsInRange k ≡ true) 
   idle-parts = idle k h ⊗ e .idle
 
 -- what a group in range does in a day, in a month and in a year
-pub day-run : (g : Group) → groupInRange g ≡ true → dayRun g .0 ≤ 80000
-day-run g h = let r = ranged g h in add-le-add (twice (g .outward) (r .outward)) (twice (g .inward) (r .inward))
-
-module _ (g : Group) (ts : List ℤ) (h : groupInRange g ≡ true) where
-  pub warmup-most : (m : ℕ) → m < 12 → monthWarmup g ts m ≤ 9300
-  warmup-most m p = days (g .days) (ranged g h .days) m p ⊗ conditions-in-range g (getD ts m (pos 0)) .minutes
+module _ (g : Group) (h : groupInRange g ≡ true) where
+  pub day-run : dayRun g .0 ≤ 80000
+  day-run = let r = ranged g h in add-le-add (twice (g .outward) (r .outward)) (twice (g .inward) (r .inward))
 
   pub run-most : (m : ℕ) → m < 12 → monthRun g m ≤ 2480000
-  run-most m p = days (g .days) (ranged g h .days) m p ⊗ day-run g h
+  run-most m p = days (g .days) (ranged g h .days) m p ⊗ day-run
 
   pub idle-most : (m : ℕ) → m < 12 → monthIdle g m ≤ 15500
   idle-most m p = let r = ranged g h in days (g .days) (r .days) m p ⊗ (le-refl 2 ⊗ r .idle)
 
-  pub activity-in-range : ActivityInRange (activityOf g ts)
+  pub warmup-most : (ts : List ℤ) (m : ℕ) → m < 12 → monthWarmup g ts m ≤ 9300
+  warmup-most ts m p = days (g .days) (ranged g h .days) m p ⊗ conditions-in-range g (getD ts m (pos 0)) .minutes
+
+  pub activity-in-range : (ts : List ℤ) → ActivityInRange (activityOf g ts)
   unfolding activityOf listTo sumTo
-  activity-in-range = record {
-    warmup = together g ts (monthWarmup g ts) 9300 12 warmup-most;
+  activity-in-range ts = record {
+    warmup = together g ts (monthWarmup g ts) 9300 12 (warmup-most ts);
     run = together g ts (monthRun g) 2480000 12 run-most;
     idle = sumTo-bound 15500 (monthIdle g) 12 idle-most;
   }

@@ -1,7 +1,7 @@
 -- Warm-up minutes are whole tenths and control factors whole percents: one computed test over each table. Assumes nothing.
 use Prim.Native.Nat.{ℕ, _<_, suc-le-suc}
 use mathlib.Core.Path.{refl}
-use mathlib.Core.List.{List, [], _∷_}
+use mathlib.Core.List.{[], _∷_}
 use lib.Dec.{eqb, lit<}
 use lib.IntN.{ℤ}
 use Rattle.sums.specs.Fraction.{whole, _over_, partsOf}

@@ -51,9 +51,10 @@ pub(crate) fn activity_of(g: Group, ts: [i16; 12]) -> Activity
         let w = warmup::conditions_at(g, ts[i]);
         let period = w.period;
         let t = w.minutes;
-        minutes[period] = minutes[period].plus(days[i], t);
-        metres[period] = metres[period].plus(days[i], run);
-        idling = idling.plus(days[i], idle);
+        let n = days[i];
+        minutes[period] = minutes[period].plus(n, t);
+        metres[period] = metres[period].plus(n, run);
+        idling = idling.plus(n, idle);
         i += 1;
     }
     Activity {

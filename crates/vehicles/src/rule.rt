@@ -44,7 +44,8 @@ fn year_of(g: Group, k: Coefficients, control: u64, a: Activity) -> u64
     )
 }
 
-// 2,000,000,000ths of a gram times a percentage are 200,000,000,000,000,000ths of a tonne, 100 exact units each.
+// 2,000,000,000ths of a gram times a percentage are 200,000,000,000,000,000ths of a tonne, 100 exact units each: 20 times fit 64 bits before the sum,
+// and 5 times the vehicles fit the 16 of its multiple.
 fn annual_of(g: Group, year: u64) -> AnnualSum
     requires { ⌜ (groupInRange g ≡ true) × (year ≤ 8928000000000000) ⌝ }
     ensures { λ r. ⌜ r ≡ annualOf (year * g .share * g .vehicles * 100) ⌝ }

@@ -33,6 +33,7 @@ impl Minutes {
         Minutes(tenths as u32)
     }
 
+    // n times t more.
     pub(crate) fn plus(self, n: u8, t: Minutes) -> Minutes
         requires { ⌜ (self .0 ≤ 1000000000) × (t .0 ≤ 80000) ⌝ }
         ensures { λ r. ⌜ r .0 ≡ self .0 + n * t .0 ⌝ }
@@ -42,6 +43,7 @@ impl Minutes {
 }
 
 impl Metres {
+    // n times d more.
     pub(crate) fn plus(self, n: u8, d: Metres) -> Metres
         requires { ⌜ (self .0 ≤ 1000000000) × (d .0 ≤ 80000) ⌝ }
         ensures { λ r. ⌜ r .0 ≡ self .0 + n * d .0 ⌝ }

@@ -1,6 +1,5 @@
 // Warm-up minutes by table 9, and heated stands.
 ghost use mathlib.Core.Path.{_≡_};
-ghost use Prim.Native.Nat.{_<_};
 ghost use Rattle.sums.specs.Fraction.{partsOf};
 ghost use Rattle.vehicles.specs.Rules.{tableMinutes, minutesAt, periodAt};
 ghost use Rattle.vehicles.specs.Parts.{ConditionsInRange, conditionsAt};

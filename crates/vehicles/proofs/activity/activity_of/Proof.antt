@@ -4,7 +4,7 @@ use native.Mathlib.Omega.{arith}
 use mathlib.Core.Path.{_≡_, refl, ap, _∙_}
 use Prim.Native.Nat.{ℕ, _≤_, _<_, _-_}
 use lib.IntN.{pos}
-use lib.ListN.{getD, length}
+use lib.ListN.{getD, length, length-set}
 use mir.Syntax.{w16}
 use mir.Facts.{toZ-ofZ}
 use Rattle.sums.specs.Choice.{sumTo}
@@ -14,13 +14,6 @@ use Rattle.vehicles.proofs.Ranges.{ranged, three}
 use Rattle.vehicles.proofs.Periods.{added, alone, day-run, warmup-most, run-most, idle-most}
 use Rattle.vehicles.proofs.activity.activity_of.Statement.{statement}
 use Rattle.vehicles.proofs.activity.activity_of.Tie as tie
-use Rattle.vehicles.proofs.activity.activity_of.Reads as reads
-use Rattle.vehicles.proofs.activity.activity_of.Lts as lts
-use Rattle.vehicles.proofs.activity.day_idle.Reads as day-idle-reads
-use Rattle.vehicles.proofs.activity.day_run.Reads as day-run-reads
-use Rattle.vehicles.proofs.units.Metres.plus.Reads as units-Metres-plus-reads
-use Rattle.vehicles.proofs.units.Minutes.plus.Reads as units-Minutes-plus-reads
-use Rattle.vehicles.proofs.warmup.conditions_at.Reads as conditions-at-reads
 
 abbrev Inv-loop : tie.InvT-loop
 Inv-loop g ts days run idle minutes₀ metres₀ idling₀ i₀ warm runs idling i =
@@ -34,32 +27,33 @@ abbrev μ-loop : tie.MeasureT-loop
 
 loop-holds : tie.Need-loop-holds Inv-loop μ-loop
 unfolding inPeriod sumTo
-loop-holds c = (search needs, search needs, search needs, three _ refl refl refl, three _ refl refl refl, refl)
+loop-holds c = (omega arith, refl, refl, three _ refl refl refl, three _ refl refl refl, refl)
 
--- a month passed is one of the twelve
-module _ (b : tie.At-loop Inv-loop μ-loop) where
-  year : (m : ℕ) → m < b .loop .i → m < 12
-  year m l = omega arith
+-- each month passed is one of the year
+of-year : (b : tie.At-loop Inv-loop μ-loop) (m : ℕ) → m < b .loop .i → m < 12
+of-year b m l = omega arith
 
 plus-requires : tie.Need-plus-requires Inv-loop μ-loop
 plus-requires c κs =
     let b = c .before .before .before .before .before in
     let s = b .before .before .before .before in
-    let w = c .before .before .conditions-at .ensures .1 in
     let g = s .args .g in
-    let ts = s .args .t2 in (
-      rw (b .loop .inv .3 _ (w .period)) (omega (arith, alone g ts (monthWarmup g ts) 9300 (b .loop .i) (λ m l. warmup-most g ts (s .pre) m (year b m l)) (c .before .before .conditions-at .result .period))),
-      omega (arith, w .minutes),
+    let ts = s .args .t2 in
+    let w = c .before .before .conditions-at in (
+      rw (b .loop .inv .3 _ (w .ensures .1 .period))
+          (omega (arith, alone g ts (monthWarmup g ts) 9300 (b .loop .i) (λ m l. warmup-most g (s .pre) ts m (of-year b m l)) (w .result .period))),
+      omega (arith, w .ensures .1 .minutes),
     )
 
 plus-requires-2 : tie.Need-plus-requires-2 Inv-loop μ-loop
 plus-requires-2 c κs =
     let b = c .before .before .before .before .before .before .before in
     let s = b .before .before .before .before in
-    let w = c .before .before .before .before .conditions-at .ensures .1 in
     let g = s .args .g in
-    let ts = s .args .t2 in (
-      rw (b .loop .inv .4 _ (w .period)) (omega (arith, alone g ts (monthRun g) 2480000 (b .loop .i) (λ m l. run-most g ts (s .pre) m (year b m l)) (c .before .before .before .before .conditions-at .result .period))),
+    let ts = s .args .t2 in
+    let w = c .before .before .before .before .conditions-at in (
+      rw (b .loop .inv .4 _ (w .ensures .1 .period))
+          (omega (arith, alone g ts (monthRun g) 2480000 (b .loop .i) (λ m l. run-most g (s .pre) m (of-year b m l)) (w .result .period))),
       rw (b .before .before .day-run .ensures) (day-run g (s .pre)),
     )
 
@@ -68,7 +62,7 @@ plus-requires-3 c κs =
     let b = c .before .before .before .before .before .before .before .before in
     let s = b .before .before .before .before in
     let g = s .args .g in (
-      rw (b .loop .inv .5) (omega (arith, sumTo-bound 15500 (monthIdle g) (b .loop .i) (λ m l. idle-most g (s .args .t2) (s .pre) m (year b m l)))),
+      rw (b .loop .inv .5) (omega (arith, sumTo-bound 15500 (monthIdle g) (b .loop .i) (λ m l. idle-most g (s .pre) m (of-year b m l)))),
       rw (b .before .day-idle .ensures) (omega (arith, ranged g (s .pre) .idle)),
     )
 
@@ -81,13 +75,13 @@ loop-again c =
     let e : a .conditions-at .result ≡ monthConditions (s .g) (s .t2) (b .loop .i) = simp x at (a .conditions-at .ensures .0) in
     let q = a .conditions-at .result .period in
     let l = a .conditions-at .ensures .1 .period in (
-      search needs,
-      search needs,
-      search needs,
+      omega arith,
+      simp length-set (b .loop .inv .1),
+      simp length-set (b .loop .inv .2),
       added (s .g) (s .t2) (monthWarmup (s .g) (s .t2)) (tenths 0) tenths (b .loop .minutes) (b .loop .i) q (c .before .before .before .plus .result)
-          (rw e) (search needs) (b .loop .inv .3) (ap tenths (c .before .before .before .plus .ensures ∙ rw (b .loop .inv .3 q l, e))),
+          (rw e) (omega arith) (b .loop .inv .3) (ap tenths (c .before .before .before .plus .ensures ∙ rw (b .loop .inv .3 q l, e))),
       added (s .g) (s .t2) (monthRun (s .g)) (metres 0) metres (b .loop .metres) (b .loop .i) q (c .before .plus2 .result)
-          (rw e) (search needs) (b .loop .inv .4) (ap metres (c .before .plus2 .ensures ∙ rw (b .loop .inv .4 q l, b .before .before .day-run .ensures))),
+          (rw e) (omega arith) (b .loop .inv .4) (ap metres (c .before .plus2 .ensures ∙ rw (b .loop .inv .4 q l, b .before .before .day-run .ensures))),
       ap tenths (c .plus3 .ensures ∙ rw (b .loop .inv .5, b .before .day-idle .ensures, sumTo-step (b .loop .i) (monthIdle (s .g)))),
     )
 
@@ -110,6 +104,6 @@ activity-of-spec =
     (tie.spec Inv-loop μ-loop
     (λ c κs. c .before .pre)
     (λ c κs. let s = c .before .before in ranged (s .args .g) (s .pre) .idle)
-    loop-holds (search needs) (search needs) (search needs) (search needs) (search needs) (search needs) plus-requires (search needs) (search needs)
-    (search needs) (search needs) (search needs) plus-requires-2 (search needs) (search needs) (search needs) plus-requires-3 (λ c. omega arith) (λ c. omega arith)
+    loop-holds (λ c. omega arith) (λ c. omega arith) (λ c. omega arith) (λ c. omega arith) (λ c. omega arith) (λ c. omega arith) plus-requires (λ c. omega arith) (λ c. omega arith)
+    (λ c. omega arith) (λ c. omega arith) plus-requires-2 (λ c. omega arith) (λ c. omega arith) plus-requires-3 (λ c. omega arith) (λ c. omega arith)
     loop-again returns)

@@ -1,5 +1,4 @@
 -- Two sums of two distances in range have a sum of 32 bits.
-use borrow.Author.Needs.{needs}
 use mir.Facts.{fits-below}
 use Rattle.vehicles.proofs.Ranges.{ranged}
 use Rattle.vehicles.proofs.Periods.{day-run}

@@ -1,9 +1,9 @@
 -- The emissions of the places passed stand in their places, in parts; the parts are what the rule gives.
 use borrow.Author.Needs.{needs}
 use native.Mathlib.Omega.{arith}
-use mathlib.Core.Path.{_≡_, _∙_}
+use mathlib.Core.Path.{_≡_, refl, _∙_}
 use Prim.Native.Nat.{ℕ, _≤_, _<_, _-_}
-use lib.ListN.{getD, length}
+use lib.ListN.{getD, length, length-set}
 use mir.Syntax.{w16}
 use mir.Facts.{toZ-ofZ}
 use Rattle.sums.specs.Answer.{noEmission}
@@ -26,16 +26,16 @@ abbrev μ-loop : tie.MeasureT-loop
 μ-loop g ks a coldest emissions₀ p₀ emissions p = 6 - p
 
 loop-holds : tie.Need-loop-holds Inv-loop μ-loop
-loop-holds c = (search needs, search needs, λ m q. absurd (omega arith))
+loop-holds c = (omega arith, refl, λ m q. absurd (omega arith))
 
 emission-of-requires : tie.Need-emission-of-requires Inv-loop μ-loop
 emission-of-requires c κs =
     let b = c .before .before in
     let s = b .before .before .before .before .before in (
       s .pre .0,
-      of-six (s .args .t3) (s .pre .1) (b .loop .p) (search needs),
-      search needs,
-      rw (b .before .before .before .before .activity-of .ensures) (activity-in-range (s .args .g) _ (s .pre .0)),
+      of-six (s .args .t3) (s .pre .1) (b .loop .p) (omega arith),
+      omega arith,
+      rw (b .before .before .before .before .activity-of .ensures) (activity-in-range (s .args .g) (s .pre .0) _),
       b .before .before .conditions-at .ensures .1,
     )
 
@@ -43,11 +43,11 @@ loop-again : tie.Need-loop-again Inv-loop μ-loop
 loop-again c =
     let b = c .before .before .before in
     let s = b .before .before .before .before .before .args in (
-      search needs,
-      search needs,
+      omega arith,
+      simp length-set (b .loop .inv .1),
       filled noEmission (b .loop .emissions) (b .loop .p) (c .emission-of .result)
           (λ (m : ℕ). emissionParts (s .g) (getD (s .t3) m noCoefficients) m (b .before .before .before .before .activity-of .result) (b .before .before .conditions-at .result))
-          (search needs) (b .loop .inv .2) (c .emission-of .ensures),
+          (omega arith) (b .loop .inv .2) (c .emission-of .ensures),
     )
 
 returns : tie.Need-returns Inv-loop μ-loop
@@ -66,5 +66,5 @@ returns c =
 pub emissions-of-spec : {M : Type 1} → statement M
 emissions-of-spec =
     tie.close
-    (tie.spec Inv-loop μ-loop (λ c κs. c .pre .0) (search needs) (search needs) (search needs) loop-holds (search needs) (search needs) emission-of-requires
-    (search needs) (search needs) (search needs) (search needs) loop-again returns)
+    (tie.spec Inv-loop μ-loop (λ c κs. c .pre .0) (search needs) (search needs) (search needs) loop-holds (λ c. omega arith) (λ c. omega arith) emission-of-requires
+    (λ c. omega arith) (λ c. omega arith) (λ c. omega arith) (λ c. omega arith) loop-again returns)

@@ -36,6 +36,6 @@ returns c =
 pub out-of-spec : {M : Type 1} → statement M
 out-of-spec =
     tie.close
-    (tie.spec (search needs) (search needs) (search needs) (search needs) (search needs)
+    (tie.spec (λ c. omega arith) (λ c. omega arith) (λ c. omega arith) (λ c. omega arith) (search needs)
     (λ c κs. let b = c .before .before .before .before .before .before .before .before .before .before in ranged (b .args .g) (b .pre .0) .outward)
     (search needs) (search needs) mass-of-requires returns)

@@ -1,6 +1,5 @@
 -- Its period and its minutes, which are in range at any temperature.
 use borrow.Author.Needs.{needs}
-use mathlib.Core.Path.{_≡_}
 use mir.Facts.{toZ-ofZ}
 use Rattle.vehicles.specs.Parts.{conditionsAt}
 use Rattle.vehicles.proofs.Scales.{conditions-in-range}
