@@ -45,10 +45,12 @@ fn coefficients_good(t: &[u8], k: Coefficients) -> bool
     vehicles::coefficients_in_range(k) & numbers::zero_from(t, 32, 32)
 }
 
-fn coefficients_in(t: &[u8]) -> CoefficientsRead
-    requires { ⌜ length (now t) ≡ 64 ⌝ }
-    ensures { λ r. ⌜ r ≡ coefficientsRead (now (t .entry)) ⌝ }
+// What slot n of a file holds as coefficients.
+pub fn read_coefficients(file: &[u8], n: usize) -> CoefficientsRead
+    ensures { λ r. ⌜ r ≡ coefficientsRead (slotOf (now (file .entry)) n) ⌝ }
 {
+    let none = [0; 64];
+    let t = slot::slot_at(file, &none, n);
     let k = coefficients_of(t);
     CoefficientsRead {
         number: numbers::number_of(t[2] == 2, coefficients_good(t, k)),
@@ -56,12 +58,4 @@ fn coefficients_in(t: &[u8]) -> CoefficientsRead
         coefficients: k,
         next: numbers::u16_at(t, 0),
     }
-}
-
-// What slot n of a file holds as coefficients.
-pub fn read_coefficients(file: &[u8], n: usize) -> CoefficientsRead
-    ensures { λ r. ⌜ r ≡ coefficientsRead (slotOf (now (file .entry)) n) ⌝ }
-{
-    let none = [0; 64];
-    coefficients_in(slot::slot_at(file, &none, n))
 }

@@ -80,10 +80,12 @@ fn group_good(t: &[u8], g: Group) -> bool
     vehicles::group_in_range(g) & (t[5] <= 3) & numbers::zero_from(t, 36, 28)
 }
 
-fn group_in(t: &[u8]) -> GroupRead
-    requires { ⌜ length (now t) ≡ 64 ⌝ }
-    ensures { λ r. ⌜ r ≡ groupRead (now (t .entry)) ⌝ }
+// What slot n of a file holds as a group.
+pub fn read_group(file: &[u8], n: usize) -> GroupRead
+    ensures { λ r. ⌜ r ≡ groupRead (slotOf (now (file .entry)) n) ⌝ }
 {
+    let none = [0; 64];
+    let t = slot::slot_at(file, &none, n);
     let group = group_of(t);
     GroupRead {
         number: numbers::number_of(t[2] == 1, group_good(t, group)),
@@ -91,12 +93,4 @@ fn group_in(t: &[u8]) -> GroupRead
         next: numbers::u16_at(t, 0),
         first: numbers::u16_at(t, 34),
     }
-}
-
-// What slot n of a file holds as a group.
-pub fn read_group(file: &[u8], n: usize) -> GroupRead
-    ensures { λ r. ⌜ r ≡ groupRead (slotOf (now (file .entry)) n) ⌝ }
-{
-    let none = [0; 64];
-    group_in(slot::slot_at(file, &none, n))
 }

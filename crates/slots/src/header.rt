@@ -36,10 +36,12 @@ fn temperatures_of(t: &[u8]) -> [i16; 12]
     ]
 }
 
-fn header_in(t: &[u8]) -> Header
-    requires { ⌜ length (now t) ≡ 64 ⌝ }
-    ensures { λ r. ⌜ r ≡ headerOf (now (t .entry)) ⌝ }
+// What slot 0 of a file holds.
+pub fn read_header(file: &[u8]) -> Header
+    ensures { λ r. ⌜ r ≡ headerOf (slotOf (now (file .entry)) 0) ⌝ }
 {
+    let none = [0; 64];
+    let t = slot::slot_at(file, &none, 0);
     Header {
         format: numbers::u16_at(t, 0),
         count: numbers::u16_at(t, 2),
@@ -48,12 +50,4 @@ fn header_in(t: &[u8]) -> Header
         temperatures: temperatures_of(t),
         rest: numbers::zero_from(t, 32, 32),
     }
-}
-
-// What slot 0 of a file holds.
-pub fn read_header(file: &[u8]) -> Header
-    ensures { λ r. ⌜ r ≡ headerOf (slotOf (now (file .entry)) 0) ⌝ }
-{
-    let none = [0; 64];
-    header_in(slot::slot_at(file, &none, 0))
 }

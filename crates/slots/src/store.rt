@@ -138,10 +138,12 @@ fn read_aspiration(t: &[u8]) -> StoreRead
     }
 }
 
-fn store_in(t: &[u8]) -> StoreRead
-    requires { ⌜ length (now t) ≡ 64 ⌝ }
-    ensures { λ r. ⌜ StoreReads (now (t .entry)) r ⌝ }
+// What slot n of a file holds as a store record.
+pub fn read_store(file: &[u8], n: usize) -> StoreRead
+    ensures { λ r. ⌜ StoreReads (slotOf (now (file .entry)) n) r ⌝ }
 {
+    let none = [0; 64];
+    let t = slot::slot_at(file, &none, n);
     let kind = t[2];
     match kind {
         3 => read_handling(t),
@@ -149,12 +151,4 @@ fn store_in(t: &[u8]) -> StoreRead
         5 => read_aspiration(t),
         _ => StoreRead::WrongKind,
     }
-}
-
-// What slot n of a file holds as a store record.
-pub fn read_store(file: &[u8], n: usize) -> StoreRead
-    ensures { λ r. ⌜ StoreReads (slotOf (now (file .entry)) n) r ⌝ }
-{
-    let none = [0; 64];
-    store_in(slot::slot_at(file, &none, n))
 }

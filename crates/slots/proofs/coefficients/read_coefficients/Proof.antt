@@ -1,9 +1,11 @@
--- The read of the slot.
+-- The fields of the slot and the number, as they are read.
 use borrow.Author.Needs.{needs}
-use mathlib.Core.Path.{ap, _∙_}
 use Rattle.slots.specs.Layout.{coefficientsRead}
 use Rattle.slots.proofs.coefficients.read_coefficients.Statement.{statement}
 use Rattle.slots.proofs.coefficients.read_coefficients.Tie as tie
 
 pub read-coefficients-spec : {M : Type 1} → statement M
-read-coefficients-spec = tie.close (tie.spec (search needs) (search needs) (search needs) (λ c. c .coefficients-in .ensures ∙ ap coefficientsRead (c .before .slot-at .ensures .0)))
+unfolding coefficientsRead
+read-coefficients-spec =
+    tie.close
+    (tie.spec (search needs) (search needs) (search needs) (search needs) (search needs) (search needs) (search needs) (search needs) (λ c. rw (c .u16-at .ensures, c .before .before .number-of .ensures, c .before .before .before .coefficients-good .ensures, c .before .before .before .before .before .coefficients-of .ensures, c .before .before .before .before .before .before .slot-at .ensures .0)))

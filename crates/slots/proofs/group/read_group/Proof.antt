@@ -1,9 +1,11 @@
--- The read of the slot.
+-- The fields of the slot and the number, as they are read.
 use borrow.Author.Needs.{needs}
-use mathlib.Core.Path.{ap, _∙_}
 use Rattle.slots.specs.Layout.{groupRead}
 use Rattle.slots.proofs.group.read_group.Statement.{statement}
 use Rattle.slots.proofs.group.read_group.Tie as tie
 
 pub read-group-spec : {M : Type 1} → statement M
-read-group-spec = tie.close (tie.spec (search needs) (search needs) (search needs) (λ c. c .group-in .ensures ∙ ap groupRead (c .before .slot-at .ensures .0)))
+unfolding groupRead
+read-group-spec =
+    tie.close
+    (tie.spec (search needs) (search needs) (search needs) (search needs) (search needs) (search needs) (search needs) (search needs) (λ c. rw (c .u16-at2 .ensures, c .before .u16-at .ensures, c .before .before .number-of .ensures, c .before .before .before .group-good .ensures, c .before .before .before .before .before .group-of .ensures, c .before .before .before .before .before .before .slot-at .ensures .0)))

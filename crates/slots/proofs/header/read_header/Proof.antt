@@ -1,9 +1,11 @@
--- The read of slot 0.
+-- The fields of slot 0, as they are read.
 use borrow.Author.Needs.{needs}
-use mathlib.Core.Path.{ap, _∙_}
 use Rattle.slots.specs.Layout.{headerOf}
 use Rattle.slots.proofs.header.read_header.Statement.{statement}
 use Rattle.slots.proofs.header.read_header.Tie as tie
 
 pub read-header-spec : {M : Type 1} → statement M
-read-header-spec = tie.close (tie.spec (search needs) (search needs) (search needs) (λ c. c .header-in .ensures ∙ ap headerOf (c .before .slot-at .ensures .0)))
+unfolding headerOf
+read-header-spec =
+    tie.close
+    (tie.spec (search needs) (search needs) (search needs) (search needs) (search needs) (search needs) (search needs) (search needs) (λ c. rw (c .zero-from .ensures, c .before .temperatures-of .ensures, c .before .before .u16-at4 .ensures, c .before .before .before .u16-at3 .ensures, c .before .before .before .before .u16-at2 .ensures, c .before .before .before .before .before .u16-at .ensures, c .before .before .before .before .before .before .slot-at .ensures .0)))
