@@ -11,8 +11,8 @@ pub struct Handling {
     pub dust: u8,
     /// The store's number, 1 or more.
     pub store: u16,
-    /// 1 limestone, 2 lump lime, 3 ground lime, 4 sodium chloride, 5 coal, 6 slag, 7 cement, 8 sand,
-    /// 9 sandstone.
+    /// 1 limestone, 2 lump lime, 3 ground lime, 4 sodium chloride, 5 coal, 6 slag, 7 cement,
+    /// 8 sand, 9 sandstone.
     pub material: u8,
     /// Tenths of a metre per second, 0 to 140.
     pub wind: u16,
