@@ -1,6 +1,6 @@
 //! Cases in the records of crates/file_cases/stdin.
 
-use crate::differ::{Lent, Trial};
+use crate::files::{Lent, Trial};
 
 pub struct Case<'a> {
     file: &'a [u8],

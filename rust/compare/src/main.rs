@@ -1,22 +1,29 @@
-//! Compares the verified library with the plain calculation, on files by seed.
+//! Compares the verified library with the plain calculation, on files by seed, and with each file
+//! on a source of each kind by the rules alone.
 //!
 //!     compare SEED COUNT [FILE_OF_CASES]
 //!
 //! The cases are records as in crates/file_cases/stdin and come before the files by seed. The
-//! first difference is told, its file goes to target/difference.slots, and the status is 1.
+//! first difference is told with its source, or its file goes to target/difference.slots, and the
+//! status is 1.
 
 #![forbid(unsafe_code)]
 
 mod cases;
-mod differ;
+mod difference;
+mod files;
+mod rules;
+mod sources;
 mod tally;
+mod values;
 
 use std::path::Path;
 use std::process::ExitCode;
 use std::time::Instant;
 use std::{env, fs};
 
-use differ::{Difference, Trial};
+use difference::Difference;
+use files::Trial;
 use tally::Tally;
 
 fn main() -> ExitCode {
@@ -57,7 +64,7 @@ fn compare_cases(path: &str, tally: &mut Tally) -> Result<(), String> {
     let input = fs::read(path).map_err(|error| format!("{path}: {error}"))?;
     for (index, case) in cases::cases(&input).enumerate() {
         let trial = case.trial();
-        differ::compare(&trial, tally)
+        files::compare(&trial, tally)
             .map_err(|difference| tell(&format!("case {index}"), &trial, &difference))?;
     }
     Ok(())
@@ -67,9 +74,11 @@ fn compare_inputs(seed: u64, count: u64, tally: &mut Tally) -> Result<(), String
     for index in 0..count {
         let input = inputs::input(seed, index);
         let trial = Trial::of_input(&input, seed, index);
-        differ::compare(&trial, tally).map_err(|difference| {
+        files::compare(&trial, tally).map_err(|difference| {
             tell(&format!("seed {seed} index {index}"), &trial, &difference)
         })?;
+        rules::compare(seed, index, &mut tally.rules)
+            .map_err(|difference| format!("seed {seed} index {index}: {difference}"))?;
     }
     Ok(())
 }

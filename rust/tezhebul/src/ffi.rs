@@ -3,8 +3,22 @@
 //! Each call hands over slices only, so no pointer is null and the memory behind it is the
 //! caller's for the length of the call, which is what the header asks.
 
+use crate::rules::{Aspiration, Group, Handling, Standing};
+
 /// TEZHEBUL_NUMBERS
 pub const NUMBERS: usize = 24;
+
+/// TEZHEBUL_EMISSION_NUMBERS
+pub const EMISSION_NUMBERS: usize = 5;
+
+/// TEZHEBUL_STORE_NUMBERS
+pub const STORE_NUMBERS: usize = 2 + EMISSION_NUMBERS;
+
+/// TEZHEBUL_GROUP_NUMBERS
+pub const GROUP_NUMBERS: usize = 2 + 6 * EMISSION_NUMBERS;
+
+/// TEZHEBUL_COEFFICIENTS
+pub const COEFFICIENTS: usize = 42;
 
 extern "C" {
     fn tezhebul_check(file: *const u8, file_length: usize) -> u32;
@@ -22,6 +36,64 @@ extern "C" {
         out: *mut u64,
         out_length: usize,
     ) -> usize;
+
+    fn tezhebul_handling(
+        dust: u8,
+        store: u16,
+        material: u8,
+        wind: u16,
+        moisture: u16,
+        grain: u16,
+        openness: u8,
+        amount: u32,
+        drop: u8,
+        out: *mut u64,
+        out_length: usize,
+    ) -> bool;
+    fn tezhebul_standing(
+        dust: u8,
+        store: u16,
+        material: u8,
+        wind: u16,
+        moisture: u16,
+        grain: u16,
+        openness: u8,
+        amount: u32,
+        k6: u16,
+        out: *mut u64,
+        out_length: usize,
+    ) -> bool;
+    fn tezhebul_aspiration(
+        dust: u8,
+        store: u16,
+        concentration: u32,
+        flow: u32,
+        capture: u16,
+        hours: u16,
+        out: *mut u64,
+        out_length: usize,
+    ) -> bool;
+    fn tezhebul_group(
+        category: u8,
+        fuel: u8,
+        flags: u8,
+        vehicles: u16,
+        leaving: u16,
+        share: u8,
+        running: u8,
+        warming: u8,
+        idle: u32,
+        distances: *const u32,
+        distances_length: usize,
+        days: *const u8,
+        days_length: usize,
+        temperatures: *const i16,
+        temperatures_length: usize,
+        coefficients: *const u32,
+        coefficients_length: usize,
+        out: *mut u64,
+        out_length: usize,
+    ) -> bool;
 }
 
 /// 0 of an accepted file, and else 65,536 times the refusal's number, plus its slot.
@@ -45,6 +117,93 @@ pub fn list(file: &[u8], buffer: &mut [u8], out: &mut [u64]) -> usize {
             file.len(),
             buffer.as_mut_ptr(),
             buffer.len(),
+            out.as_mut_ptr(),
+            out.len(),
+        )
+    }
+}
+
+/// False, and nothing written, where `out` has room for fewer than `STORE_NUMBERS`.
+pub fn handling(source: &Handling, out: &mut [u64]) -> bool {
+    // SAFETY: the pointer and length are those of a slice that may be written.
+    unsafe {
+        tezhebul_handling(
+            source.dust,
+            source.store,
+            source.material,
+            source.wind,
+            source.moisture,
+            source.grain,
+            source.openness,
+            source.amount,
+            source.drop,
+            out.as_mut_ptr(),
+            out.len(),
+        )
+    }
+}
+
+/// The same of a standing record.
+pub fn standing(source: &Standing, out: &mut [u64]) -> bool {
+    // SAFETY: as in `handling`.
+    unsafe {
+        tezhebul_standing(
+            source.dust,
+            source.store,
+            source.material,
+            source.wind,
+            source.moisture,
+            source.grain,
+            source.openness,
+            source.amount,
+            source.k6,
+            out.as_mut_ptr(),
+            out.len(),
+        )
+    }
+}
+
+/// The same of an aspiration record.
+pub fn aspiration(source: &Aspiration, out: &mut [u64]) -> bool {
+    // SAFETY: as in `handling`.
+    unsafe {
+        tezhebul_aspiration(
+            source.dust,
+            source.store,
+            source.concentration,
+            source.flow,
+            source.capture,
+            source.hours,
+            out.as_mut_ptr(),
+            out.len(),
+        )
+    }
+}
+
+/// False, and nothing written, where a slice has another length than twelve months and
+/// `COEFFICIENTS`, or `out` has room for fewer than `GROUP_NUMBERS`.
+pub fn group(source: &Group, temperatures: &[i16], coefficients: &[u32], out: &mut [u64]) -> bool {
+    // SAFETY: each pointer and length are those of a slice; all but `out` are only read, and `out`
+    // is a slice of its own that may be written.
+    unsafe {
+        tezhebul_group(
+            source.category,
+            source.fuel,
+            source.flags,
+            source.vehicles,
+            source.leaving,
+            source.share,
+            source.running,
+            source.warming,
+            source.idle,
+            source.distances.as_ptr(),
+            source.distances.len(),
+            source.days.as_ptr(),
+            source.days.len(),
+            temperatures.as_ptr(),
+            temperatures.len(),
+            coefficients.as_ptr(),
+            coefficients.len(),
             out.as_mut_ptr(),
             out.len(),
         )
@@ -86,5 +245,64 @@ mod tests {
         assert!(buffer[..length].ends_with(b"\nsources 0 0\n"));
         assert_eq!(buffer[length..], [b'~'; 526][length..]);
         assert_eq!(out, [7; NUMBERS - 1]);
+    }
+
+    const FAN: Aspiration = Aspiration {
+        dust: 1,
+        store: 1,
+        concentration: 500,
+        flow: 2_000,
+        capture: 9_500,
+        hours: 1_000,
+    };
+
+    #[test]
+    fn too_few_numbers_of_a_store_record() {
+        let mut out = [7; STORE_NUMBERS - 1];
+        assert!(!aspiration(&FAN, &mut out));
+        assert_eq!(out, [7; STORE_NUMBERS - 1]);
+        assert!(!aspiration(&FAN, &mut []));
+    }
+
+    #[test]
+    fn only_the_first_numbers_of_a_store_record() {
+        let mut out = [7; STORE_NUMBERS + 2];
+        assert!(aspiration(&FAN, &mut out));
+        assert_eq!(out, [0, 0, 152, 180_000, 0, 500_000, 0, 7, 7]);
+    }
+
+    const CAR: Group = Group {
+        category: 1,
+        fuel: 1,
+        flags: 0,
+        vehicles: 1,
+        leaving: 0,
+        share: 0,
+        running: 0,
+        warming: 0,
+        idle: 0,
+        distances: [0; 4],
+        days: [0; 12],
+    };
+
+    #[test]
+    fn wrong_lengths_of_a_group() {
+        for (months, numbers, room) in [(11, 42, 32), (13, 42, 32), (12, 41, 32), (12, 42, 31)] {
+            let mut out = vec![7; room];
+            assert!(!group(&CAR, &vec![0; months], &vec![0; numbers], &mut out));
+            assert_eq!(out, vec![7; room]);
+        }
+    }
+
+    #[test]
+    fn only_the_first_numbers_of_a_group() {
+        let mut out = [7; GROUP_NUMBERS + 1];
+        assert!(group(&CAR, &[0; 12], &[0; COEFFICIENTS], &mut out));
+        let codes = [337, 2704, 301, 328, 330, 184];
+        assert_eq!(out[..2], [0; 2]);
+        for (given, code) in out[2..].chunks_exact(EMISSION_NUMBERS).zip(codes) {
+            assert_eq!(given, [code, 0, 0, 0, 0]);
+        }
+        assert_eq!(out[GROUP_NUMBERS], 7);
     }
 }

@@ -1,35 +1,35 @@
 //! The check, the answer and the listing of a slot file.
 
 use crate::ffi::{self, NUMBERS};
+use crate::Refusal;
 
-/// The question that is answered no, and its slot.
-#[derive(Clone, Copy, Debug, PartialEq, Eq)]
-pub struct Refusal {
-    pub number: u8,
-    pub slot: u16,
-}
-
-/// Counts and figures of an accepted file, by the codes 0152 0184 0301 0328 0330 0337 2704 2754
-/// 2908 2909.
+/// Counts and figures of an accepted file. The figures stand by the codes 0152 0184 0301 0328 0330
+/// 0337 2704 2754 2908 2909, each rounded once, after all sources are added.
 #[derive(Clone, Copy, Debug, PartialEq, Eq)]
 pub struct Answer {
+    /// Vehicle groups.
     pub groups: u16,
+    /// Store records: handling, standing and aspiration.
     pub stores: u16,
-    /// Millionths of a tonne.
+    /// The mass of a year, in millionths of a tonne.
     pub annual: [u64; 10],
-    /// Ten-millionths of a gram per second.
+    /// The peak rate, in ten-millionths of a gram per second.
     pub peak: [u64; 10],
 }
 
-/// Whether the file is accepted.
+/// Whether the slot file is accepted; docs/FORMAT.md has its layout. Any bytes may be asked about.
+/// Refused by 1 to 12.
 pub fn check(file: &[u8]) -> Result<(), Refusal> {
     match ffi::check(file) {
         0 => Ok(()),
-        word => Err(refusal(u64::from(word >> 16), u64::from(word & 0xffff))),
+        word => Err(Refusal::read(
+            u64::from(word >> 16),
+            u64::from(word & 0xffff),
+        )),
     }
 }
 
-/// The figures and counts of the file.
+/// The figures and counts of the slot file. Refused as by [`check`].
 pub fn answer(file: &[u8]) -> Result<Answer, Refusal> {
     let mut numbers = [0; NUMBERS];
     let written = ffi::answer(file, &mut numbers);
@@ -37,13 +37,16 @@ pub fn answer(file: &[u8]) -> Result<Answer, Refusal> {
     read(&numbers)
 }
 
-/// Writes the listing to the start of the buffer and returns its length; a refusal, 13 included,
-/// changes no byte of it.
+/// Writes the listing to the start of the buffer and returns its length; no byte behind it is
+/// changed.
+///
+/// Refused as by [`check`], and then by 13 where the buffer is shorter than the listing: 526 bytes
+/// are always enough. A refusal changes no byte of the buffer.
 pub fn list(file: &[u8], buffer: &mut [u8]) -> Result<usize, Refusal> {
     list_and_answer(file, buffer).map(|(length, _)| length)
 }
 
-/// The same, with the answer that is listed.
+/// [`list`], with the answer that is listed.
 pub fn list_and_answer(file: &[u8], buffer: &mut [u8]) -> Result<(usize, Answer), Refusal> {
     let mut numbers = [0; NUMBERS];
     let length = ffi::list(file, buffer, &mut numbers);
@@ -61,7 +64,7 @@ fn read(numbers: &[u64; NUMBERS]) -> Result<Answer, Refusal> {
             numbers[2..].iter().all(|&n| n == 0),
             "a refusal has every figure and count zero"
         );
-        return Err(refusal(*number, *slot));
+        return Err(Refusal::read(*number, *slot));
     }
     assert_eq!(*slot, 0, "an accepted file has slot 0");
     Ok(Answer {
@@ -70,14 +73,6 @@ fn read(numbers: &[u64; NUMBERS]) -> Result<Answer, Refusal> {
         annual: std::array::from_fn(|code| figures[code]),
         peak: std::array::from_fn(|code| figures[10 + code]),
     })
-}
-
-fn refusal(number: u64, slot: u64) -> Refusal {
-    assert!((1..=13).contains(&number), "a refusal is numbered 1 to 13");
-    Refusal {
-        number: number as u8,
-        slot: u16::try_from(slot).expect("a slot is below 65,536"),
-    }
 }
 
 fn count(number: u64) -> u16 {

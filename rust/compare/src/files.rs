@@ -1,10 +1,8 @@
 //! One file, by the library and by the plain calculation.
 
-use std::fmt;
-use std::panic::{catch_unwind, AssertUnwindSafe};
-
 use inputs::{Input, Random};
 
+use crate::difference::{equal, or_panic, refusal, Difference};
 use crate::tally::Tally;
 
 /// How long a buffer is lent.
@@ -25,24 +23,6 @@ pub struct Trial<'a> {
     pub lent: Lent,
     /// The byte that the lent buffer is filled with.
     pub filling: u8,
-}
-
-/// What was asked, and what each side said.
-pub struct Difference {
-    asked: &'static str,
-    library: String,
-    plain: String,
-}
-
-impl fmt::Display for Difference {
-    fn fmt(&self, f: &mut fmt::Formatter) -> fmt::Result {
-        let Difference {
-            asked,
-            library,
-            plain,
-        } = self;
-        write!(f, "{asked}\nlibrary: {library}\nplain:   {plain}")
-    }
 }
 
 impl<'a> Trial<'a> {
@@ -67,16 +47,9 @@ impl<'a> Trial<'a> {
     }
 }
 
-/// Compares all that the two say; a panic is a difference too.
+/// Compares all that the two say.
 pub fn compare(trial: &Trial, tally: &mut Tally) -> Result<(), Difference> {
-    let compared = catch_unwind(AssertUnwindSafe(|| said(trial, tally)));
-    compared.unwrap_or_else(|_| {
-        Err(Difference {
-            asked: "a call ended in a panic",
-            library: "see above".to_string(),
-            plain: "see above".to_string(),
-        })
-    })
+    or_panic(|| said(trial, tally))
 }
 
 fn said(trial: &Trial, tally: &mut Tally) -> Result<(), Difference> {
@@ -124,7 +97,7 @@ fn said_of_list(
     equal("list", library, plain)?;
     if library_buffer != plain_buffer {
         return Err(Difference {
-            asked: "the buffer after list",
+            asked: "the buffer after list".to_string(),
             library: format!("{:?}", String::from_utf8_lossy(&library_buffer)),
             plain: format!("{:?}", String::from_utf8_lossy(&plain_buffer)),
         });
@@ -138,28 +111,6 @@ fn lent_length(trial: &Trial) -> usize {
         Lent::Listing(more) => plain::list(trial.file, &mut [0; plain::LONGEST])
             .unwrap_or(plain::LONGEST)
             .saturating_add_signed(more),
-    }
-}
-
-fn equal<T: PartialEq + fmt::Debug>(
-    asked: &'static str,
-    library: T,
-    plain: T,
-) -> Result<(), Difference> {
-    if library == plain {
-        return Ok(());
-    }
-    Err(Difference {
-        asked,
-        library: format!("{library:?}"),
-        plain: format!("{plain:?}"),
-    })
-}
-
-fn refusal(refusal: tezhebul::Refusal) -> plain::Refusal {
-    plain::Refusal {
-        number: refusal.number,
-        slot: refusal.slot,
     }
 }
 

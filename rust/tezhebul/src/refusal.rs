@@ -1,0 +1,24 @@
+//! Refusals.
+
+/// The first question that is answered no, and the slot that it is about.
+///
+/// README.md has what each number says and how to mend it. Of a rule, which knows no slots, the
+/// slot is 0.
+#[derive(Clone, Copy, Debug, PartialEq, Eq)]
+pub struct Refusal {
+    /// 1 to 13.
+    pub number: u8,
+    /// 0 where the question is about the whole file.
+    pub slot: u16,
+}
+
+impl Refusal {
+    /// Of numbers that the library gave.
+    pub(crate) fn read(number: u64, slot: u64) -> Refusal {
+        assert!((1..=13).contains(&number), "a refusal is numbered 1 to 13");
+        Refusal {
+            number: number as u8,
+            slot: u16::try_from(slot).expect("a slot is below 65,536"),
+        }
+    }
+}

@@ -1,0 +1,35 @@
+#!/usr/bin/env bash
+# All tests: the gate, the tests of the Rust workspace, the library against the plain calculation of rust/plain, and the program on input and output that the
+# system makes hard:
+#     tests/all.sh [--after-gate] [SEED]
+# --after-gate leaves the gate out, where it has just passed. SEED, else 1, is that of the files and sources that are compared.
+set -eu
+cd "$(dirname "$0")/.."
+
+gate=yes
+if [ "${1-}" = --after-gate ]; then
+    gate=no
+    shift
+fi
+seed=${1-1}
+case "$#:$seed" in
+    [01]:*[!0-9]* | [01]: | [!01]:*)
+        echo "usage: tests/all.sh [--after-gate] [SEED]" >&2
+        exit 2
+        ;;
+esac
+
+if [ "$gate" = yes ]; then
+    bash .ci/run
+fi
+rt staticlib tezhebul
+rt check inventory
+cargo test --release --offline --workspace --manifest-path rust/Cargo.toml
+tests/compare.sh "$seed" 200000
+python3 tests/hard_input.py target/bin/inventory
+if command -v valgrind >/dev/null; then
+    python3 tests/hard_input.py target/bin/inventory --valgrind
+else
+    echo "valgrind is not installed: the program is not run under it"
+fi
+echo "all tests passed"
