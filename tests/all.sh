@@ -25,7 +25,7 @@ fi
 rt staticlib tezhebul
 rt check inventory
 cargo test --release --offline --workspace --manifest-path rust/Cargo.toml
-tests/compare.sh "$seed" 200000
+cargo run --release --offline --manifest-path rust/Cargo.toml -p compare -- "$seed" 200000
 python3 tests/hard_input.py target/bin/inventory
 if command -v valgrind >/dev/null; then
     python3 tests/hard_input.py target/bin/inventory --valgrind
