@@ -1,6 +1,7 @@
 /* Tezhebul for tools in other languages: the check, the answer and the listing of an inventory slot file, and the rules of each kind of source.
-   Each function is proved to do what a definition of the papers says (crates/tezhebul). A slice is a pointer and a length; a pointer is not null and the
-   memory behind it is the caller's for the length of the call. Build the archive with `rt staticlib tezhebul`. */
+   Each function is proved to do what a definition of the papers says (crates/tezhebul). A slice is a pointer and a length. A pointer is not null, also where the
+   length is 0; the memory behind it is the caller's for the length of the call; and memory that is written (`buffer`, `out`) overlaps no other slice of the call.
+   What the refusal numbers and the codes of fields mean is in README.md and docs/FORMAT.md. Build the archive with `rt staticlib tezhebul`. */
 #ifndef TEZHEBUL_H
 #define TEZHEBUL_H
 
@@ -8,11 +9,18 @@
 #include <stddef.h>
 #include <stdint.h>
 
+#ifdef __cplusplus
+extern "C" {
+#endif
+
 /* Files.
 
    Numbers of an answer: number and slot (0 and 0 of an accepted file), groups, store records, ten annual figures in millionths of a tonne, ten peak figures in
    ten-millionths of a gram per second, by the codes 0152 0184 0301 0328 0330 0337 2704 2754 2908 2909. */
 #define TEZHEBUL_NUMBERS 24
+
+/* No listing is longer. */
+#define TEZHEBUL_LISTING_MOST 526
 
 /* 0 of an accepted file, and else 65,536 times the refusal's number, plus its slot. */
 uint32_t tezhebul_check(const uint8_t *file, size_t file_length);
@@ -20,8 +28,8 @@ uint32_t tezhebul_check(const uint8_t *file, size_t file_length);
 /* Writes the answer's numbers to the start of `out`; false, and nothing written, where it has room for fewer than TEZHEBUL_NUMBERS. */
 bool tezhebul_answer(const uint8_t *file, size_t file_length, uint64_t *out, size_t out_length);
 
-/* Writes the listing to the start of the buffer and returns its length; a refusal, 13 included, returns 0 and changes no byte of it. Where `out` has room for
-   TEZHEBUL_NUMBERS, they are those of what the listing answers. */
+/* Writes the listing to the start of the buffer and returns its length; a refusal, 13 included, returns 0 and changes no byte of it. Where `out` has
+   room for TEZHEBUL_NUMBERS, its first are then those of the answer, or of refusal 13; a shorter `out` stays as it is. */
 size_t tezhebul_list(const uint8_t *file, size_t file_length, uint8_t *buffer, size_t buffer_length, uint64_t *out, size_t out_length);
 
 /* Rules.
@@ -51,10 +59,10 @@ size_t tezhebul_list(const uint8_t *file, size_t file_length, uint8_t *buffer, s
      wind      tenths of a metre per second, 0 to 140
      moisture  tenths of a percent, 0 to 1,000
      grain     millimetres, any
-     openness  1 to 7
+     openness  1 on four sides, 2 on three, 3 on two in part, 4 on two wholly, 5 on one, 6 loading sleeve, 7 closed
      amount    handled: kilograms in 20 minutes; standing: square metres; 0 to 1,000,000
      drop      the class of the drop, 1 to 8: 0.5, 1, 1.5, 2, 4, 6, 8, 10 metres
-     k6        hundredths, 100 to 200, or 0 where it is missing */
+     k6        hundredths, 100 to 200, or 0 where it is missing, which counts as 130 */
 bool tezhebul_handling(uint8_t dust, uint16_t store, uint8_t material, uint16_t wind, uint16_t moisture, uint16_t grain, uint8_t openness, uint32_t amount,
                        uint8_t drop, uint64_t *out, size_t out_length);
 
@@ -94,5 +102,9 @@ bool tezhebul_aspiration(uint8_t dust, uint16_t store, uint32_t concentration, u
 bool tezhebul_group(uint8_t category, uint8_t fuel, uint8_t flags, uint16_t vehicles, uint16_t leaving, uint8_t share, uint8_t running, uint8_t warming,
                     uint32_t idle, const uint32_t *distances, size_t distances_length, const uint8_t *days, size_t days_length, const int16_t *temperatures,
                     size_t temperatures_length, const uint32_t *coefficients, size_t coefficients_length, uint64_t *out, size_t out_length);
+
+#ifdef __cplusplus
+}
+#endif
 
 #endif

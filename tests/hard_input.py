@@ -28,10 +28,17 @@ UNREAD = (b"refused 1 0\n", b"inventory: standard input: ")
 UNWRITTEN = b"inventory: standard output: "
 
 
-def ended(program, **how):
-    """What the program prints on both outputs, and its status; it must end."""
+def ended(program, status=0, **how):
+    """What the program prints on both outputs; it must end, and with this status."""
     how = {"stdout": subprocess.PIPE, "stderr": subprocess.PIPE, **how}
-    return subprocess.run([program], timeout=SECONDS, **how)
+    done = subprocess.run([program], timeout=SECONDS, **how)
+    assert done.returncode == status, done.returncode
+    return done
+
+
+def assert_printed(done, text, label):
+    """On standard output this text, and on standard error nothing."""
+    assert (done.stdout, done.stderr) == (text, b""), (label, done.stdout, done.stderr)
 
 
 def assert_unread(done, label):
@@ -72,9 +79,9 @@ def stopped_pipe(program):
     """A pipe that stops after any number of slots, in the middle of one, or of its first."""
     data = example()
     for size in (0, 1, 2, 63, *range(64, len(data), 64), *range(100, len(data), 64)):
-        done = ended(program, input=data[:size])
-        assert done.stdout == slot_file.printed(data[:size]), (size, done.stdout)
-        assert done.stdout.startswith(b"refused "), size
+        text = slot_file.printed(data[:size])
+        assert text.startswith(b"refused "), size
+        assert_printed(ended(program, input=data[:size]), text, size)
 
 
 def killed_writer(program):
@@ -85,7 +92,7 @@ def killed_writer(program):
         writer = subprocess.Popen(words, stdout=subprocess.PIPE)
         done = ended(program, stdin=writer.stdout)
         assert writer.wait() == -signal.SIGKILL
-    assert done.stdout == b"refused 3 0\n", done.stdout
+    assert_printed(done, b"refused 3 0\n", "killed writer")
 
 
 def slow_pipe(program):
@@ -95,18 +102,17 @@ def slow_pipe(program):
         running.stdin.write(bytes([byte]))
         running.stdin.flush()
         time.sleep(0.001)
-    running.stdin.close()
-    assert running.stdout.read() == LISTING
-    running.wait(SECONDS)
+    text, _ = running.communicate(timeout=SECONDS)
+    assert (text, running.returncode) == (LISTING, 0), text
 
 
 def long_input(program):
     full = file_mixes.full()[0].data
     assert len(full) == 65_536
-    assert ended(program, input=full).stdout == slot_file.printed(full)
-    assert ended(program, input=full + b"\0").stdout == b"refused 1 0\n"
+    assert_printed(ended(program, input=full), slot_file.printed(full), "the longest")
+    assert_printed(ended(program, input=full + b"\0"), b"refused 1 0\n", "a byte more")
     with open("/dev/zero", "rb") as endless:
-        assert ended(program, stdin=endless).stdout == b"refused 1 0\n"
+        assert_printed(ended(program, stdin=endless), b"refused 1 0\n", "no end")
 
 
 # Output
@@ -128,12 +134,10 @@ def closed_pipe(program):
     for ignored in (False, True):
         ours, theirs = os.pipe()
         os.close(ours)
-        done = ended(program, input=example(), stdout=theirs, restore_signals=not ignored)
+        status = 0 if ignored else -signal.SIGPIPE
+        done = ended(program, status, input=example(), stdout=theirs, restore_signals=not ignored)
         os.close(theirs)
-        if ignored:
-            assert done.stderr.startswith(UNWRITTEN), done.stderr
-        else:
-            assert done.returncode == -signal.SIGPIPE, done.returncode
+        assert done.stderr.startswith(UNWRITTEN if ignored else b""), done.stderr
 
 
 def room_for_a_part(program):

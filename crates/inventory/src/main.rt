@@ -1,6 +1,7 @@
 // Prints the listing of the inventory file on standard input, or its refusal line.
 
-// Prints the listing of a file, or its refusal line. Where it can't be written whole, standard error says so.
+// Prints the listing of a file, or its refusal line. Where it can't be written whole, standard error says so, unless the system ends the program first, as it does
+// where nobody reads a pipe any more.
 fn show(file: &[u8]) {
     let mut out = [0; 640];
     let length = listing::print(file, &mut out);

@@ -2,15 +2,11 @@
 ghost use mathlib.Core.Path.{_≡_};
 ghost use Prim.Native.Nat.{_+_, _≤_};
 ghost use lib.ListN.{length};
-ghost use Rattle.vehicles.specs.Rules.{refused};
 ghost use Rattle.tezhebul.specs.Fields.{bulkOf, lengths, distancesAt, groupOf, coefficientsAt, rowsOf};
 use stores::Bulk;
-use sums::Emission;
-use sums::Verdict;
 use vehicles::Coefficients;
 use vehicles::Distances;
 use vehicles::Group;
-use vehicles::GroupAnswer;
 use vehicles::Metres;
 use vehicles::Minutes;
 use vehicles::Neutraliser;
@@ -165,14 +161,4 @@ pub(crate) fn rows_of(coefficients: &[u32]) -> [Coefficients; 6]
         coefficients_at(coefficients, 28),
         coefficients_at(coefficients, 35),
     ]
-}
-
-// The answer where a field is out of range.
-pub(crate) fn out_of_range() -> GroupAnswer
-    ensures { λ r. ⌜ r ≡ refused 9 ⌝ }
-{
-    GroupAnswer {
-        verdict: Verdict { number: 9, slot: 0 },
-        emissions: [Emission::none(); 6],
-    }
 }

@@ -126,7 +126,7 @@ fn group_answer(flags: u8, g: Group, ts: [i16; 12], ks: [Coefficients; 6]) -> Gr
     if flags <= 3 {
         vehicles::group_emissions(g, ts, ks)
     } else {
-        fields::out_of_range()
+        GroupAnswer::refusal(9)
     }
 }
 

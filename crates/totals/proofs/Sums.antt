@@ -1,6 +1,6 @@
 -- Totals of exact units: an emission adds the units of its contribution to the sums of its code, and the six of a group add theirs. Code by
 -- code, and since sums of mixed numbers are those of what they stand for. Assumes nothing.
-use Prim.Native.Nat.{ℕ, zero, suc, _+_, _<_, _≤_}
+use Prim.Native.Nat.{ℕ, zero, suc, _+_, _≤_}
 use native.Mathlib.Omega.{arith}
 use mathlib.Core.Path.{_≡_, refl, ap, _∙_}
 use mathlib.Core.Bool.{Bool, true, false}

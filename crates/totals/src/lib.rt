@@ -69,7 +69,7 @@ pub fn none() -> [u64; 40]
     [0; 40]
 }
 
-// Other memory than forty numbers stays as it is.
+// Adds to the sums of the emission's code; a code that the listing does not have adds to none, and other memory than forty numbers stays as it is.
 pub fn add(totals: &mut [u64], e: Emission)
     ensures { λ _. ⌜ now (totals .exit) ≡ plusIn (now (totals .entry)) e ⌝ }
 {

@@ -112,7 +112,7 @@ pub(crate) fn all_in_range(ks: [Coefficients; 6]) -> bool
         & coefficients_in_range(ks[5])
 }
 
-pub fn all_zero(k: Coefficients) -> bool
+pub(crate) fn all_zero(k: Coefficients) -> bool
     ensures { λ r. ⌜ r ≡ allZero k ⌝ }
 {
     let w = k.warmup;

@@ -12,7 +12,6 @@ pub use group::Coefficients;
 pub use group::Distances;
 pub use group::Group;
 pub use group::Neutraliser;
-pub use group::all_zero;
 pub use group::coefficients_in_range;
 pub use group::group_in_range;
 pub use rule::GroupAnswer;

@@ -123,12 +123,15 @@ pub fn forbidden_soot_or_lead(g: Group, ks: [Coefficients; 6]) -> bool
     ((g.fuel == 1) & !group::all_zero(ks[3])) | ((g.fuel == 2) & !group::all_zero(ks[5]))
 }
 
-fn refuse(number: u8) -> GroupAnswer
-    ensures { λ r. ⌜ r ≡ refused number ⌝ }
-{
-    GroupAnswer {
-        verdict: Verdict { number, slot: 0 },
-        emissions: [Emission::none(); 6],
+impl GroupAnswer {
+    // A refusal at slot 0, "with zero figures".
+    pub fn refusal(number: u8) -> Self
+        ensures { λ r. ⌜ r ≡ refused number ⌝ }
+    {
+        Self {
+            verdict: Verdict { number, slot: 0 },
+            emissions: [Emission::none(); 6],
+        }
     }
 }
 
@@ -137,7 +140,7 @@ pub fn group_emissions(g: Group, ts: [i16; 12], ks: [Coefficients; 6]) -> GroupA
 {
     if in_range(g, ts, ks) {
         if forbidden_soot_or_lead(g, ks) {
-            refuse(11)
+            GroupAnswer::refusal(11)
         } else {
             GroupAnswer {
                 verdict: Verdict { number: 0, slot: 0 },
@@ -145,6 +148,6 @@ pub fn group_emissions(g: Group, ts: [i16; 12], ks: [Coefficients; 6]) -> GroupA
             }
         }
     } else {
-        refuse(9)
+        GroupAnswer::refusal(9)
     }
 }

@@ -27,7 +27,7 @@ use Rattle.slot_file.specs.Alike.{total}
 use Rattle.slot_file.proofs.Marks.{different-short}
 use Rattle.slot_file.proofs.Verdicts.{sized, groups-differ, stores-differ}
 use Rattle.slot_file.specs.Parts.{marksOf, annualTo, peakTo}
-use Rattle.totals.specs.Totals.{Totals, totalsOf, noNumbers, totalsIn, plusEmission, plusTo, plusIn, plusToIn}
+use Rattle.totals.specs.Totals.{totalsOf, noNumbers, totalsIn, plusEmission, plusTo}
 use Rattle.totals.proofs.Forty.{plus-held, plus-to-held}
 use Rattle.totals.proofs.Sums.{same-totals, plus-emitted, plus-six}
 use Rattle.walk.specs.Rows.{marksTo}

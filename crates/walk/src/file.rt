@@ -1,8 +1,6 @@
 // A whole file: its check and its answer, by one walk over its chains.
 ghost use mathlib.Core.Path.{_≡_};
 ghost use mathlib.Core.List.{[]};
-ghost use Rattle.slots.specs.Bytes.{slotOf};
-ghost use Rattle.slots.specs.Layout.{headerOf};
 ghost use Rattle.slot_file.specs.Walk.{verdict, told};
 ghost use Rattle.slot_file.specs.Figures as figures;
 ghost use Rattle.slot_file.specs.Parts.{marksOf};
@@ -13,14 +11,7 @@ use super::questions;
 use super::records;
 use super::walked::Walked;
 use slot_file::Answer;
-use slots::Header;
 use sums::Verdict;
-
-fn header_of(file: &[u8]) -> Header
-    ensures { λ r. ⌜ r ≡ headerOf (slotOf (now (file .entry)) 0) ⌝ }
-{
-    slots::read_header(file)
-}
 
 // No slot is marked but slot 0.
 fn no_marks() -> [bool; 1024]
@@ -36,7 +27,7 @@ fn walk_file(file: &[u8], totals: &mut [u64], summing: bool) -> Walked
     requires { ⌜ now totals ≡ noNumbers ⌝ }
     ensures { λ r. ⌜ FileWalked (now (file .entry)) summing (now (totals .exit)) r ⌝ }
 {
-    let h = header_of(file);
+    let h = slots::read_header(file);
     let verdict = questions::ask_head(file, h);
     if verdict.number != 0 {
         return Walked {

@@ -57,8 +57,8 @@ fn step_group(
     }
 }
 
-// With a group's emissions, where sums are wanted.
-fn plus_group(totals: &mut [u64], summing: bool, temperatures: [i16; 12], step: GroupStep)
+// Adds a group's emissions, where sums are wanted.
+fn add_group(totals: &mut [u64], summing: bool, temperatures: [i16; 12], step: GroupStep)
     ensures { λ _. ⌜ now (totals .exit) ≡ plusGroup summing (now (totals .entry)) (groupAnswer (step .group) temperatures (step .coefficients)) ⌝ }
 {
     if summing {
@@ -96,7 +96,7 @@ pub(crate) fn walk_groups(
                 stores: 0,
             };
         }
-        plus_group(totals, summing, temperatures, step);
+        add_group(totals, summing, temperatures, step);
         holder = link;
         link = step.next;
         count += 1;

@@ -89,8 +89,8 @@ fn store_emission(read: StoreRead) -> Emission
     }
 }
 
-// With a store record's emission, where sums are wanted.
-fn plus_store(totals: &mut [u64], summing: bool, read: StoreRead)
+// Adds a store record's emission, where sums are wanted.
+fn add_store(totals: &mut [u64], summing: bool, read: StoreRead)
     ensures { λ _. ⌜ now (totals .exit) ≡ plusStore summing (now (totals .entry)) read ⌝ }
 {
     if summing {
@@ -126,7 +126,7 @@ pub(crate) fn walk_stores(
             };
         }
         let read = step.read;
-        plus_store(totals, summing, read);
+        add_store(totals, summing, read);
         holder = link;
         link = step.next;
         count += 1;

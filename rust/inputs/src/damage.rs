@@ -7,7 +7,7 @@ use crate::random::Random;
 /// A way to damage a file: false where the file has no place for it.
 type Damage = fn(&mut Random, &mut Layout) -> bool;
 
-/// Each is as likely as another, so some stand twice.
+/// Each entry is as likely as another; those that a file rarely has a place for stand more than once.
 const DAMAGES: [Damage; 24] = [
     length,
     format,

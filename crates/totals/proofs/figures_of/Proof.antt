@@ -5,7 +5,6 @@ use mathlib.Core.Path.{_≡_, ap, sym, _∙_}
 use Prim.Native.Nat.{ℕ, _≤_, _<_, _-_, _%_, _^_}
 use mathlib.Core.List.{List}
 use lib.ListN.{getD, length}
-use Rattle.sums.specs.Choice.{listTo}
 use Rattle.sums.specs.Figures.{annualOf, annualFigure, peakOf, peakFigure}
 use Rattle.sums.specs.declared.mixed.Mixed.{Mixed}
 use Rattle.sums.specs.declared.annual.AnnualSum.{AnnualSum}

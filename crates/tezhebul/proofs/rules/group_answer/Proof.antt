@@ -12,4 +12,4 @@ group-answer-spec =
     tie.close
     (tie.spec (search needs) (search needs)
     (λ c. yes _ _ _ _ (le-leb _ _ (c .before .if1 .taken)) (c .group-emissions .ensures))
-    (λ c. no _ _ _ _ (lt-leb _ _ (c .before .if1 .left)) (c .out-of-range .ensures)))
+    (λ c. no _ _ _ _ (lt-leb _ _ (c .before .if1 .left)) (c .refusal .ensures)))

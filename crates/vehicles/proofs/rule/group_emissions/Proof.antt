@@ -16,8 +16,8 @@ group-emissions-spec =
     (search needs)
     (λ c.
     yes _ _ _ _ (sym (c .before .before .before .before .in-range .ensures) ∙ c .before .before .before .if1 .taken)
-    (yes _ _ _ _ (sym (c .before .before .forbidden-soot-or-lead .ensures) ∙ c .before .if2 .taken) (c .refuse .ensures)))
+    (yes _ _ _ _ (sym (c .before .before .forbidden-soot-or-lead .ensures) ∙ c .before .if2 .taken) (c .refusal .ensures)))
     (λ c.
     yes _ _ _ _ (sym (c .before .before .before .before .in-range .ensures) ∙ c .before .before .before .if1 .taken)
     (no _ _ _ _ (sym (c .before .before .forbidden-soot-or-lead .ensures) ∙ c .before .if2 .left) (rw (c .emissions-of .ensures))))
-    (λ c. no _ _ _ _ (sym (c .before .before .in-range .ensures) ∙ c .before .if1 .left) (c .refuse2 .ensures)))
+    (λ c. no _ _ _ _ (sym (c .before .before .in-range .ensures) ∙ c .before .if1 .left) (c .refusal2 .ensures)))

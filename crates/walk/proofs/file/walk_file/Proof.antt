@@ -14,7 +14,7 @@ walk-groups-requires c κs =
     let a = c .before .before .before .before .before in
     record {
       head = a .before .before .ask-head .ensures .all (a .if1 .left);
-      header = a .before .before .before .header-of .ensures;
+      header = a .before .before .before .read-header .ensures;
       none-marked = c .before .before .before .before .no-marks .ensures;
       none-reached = c .before .before .before .no-marks2 .ensures;
       none-summed = a .before .before .before .before .before .before .pre;
@@ -29,7 +29,7 @@ walk-stores-requires c κs =
     let b = d .before .before .before .before .before .before in
     record {
       head = b .before .before .ask-head .ensures .all (b .if1 .left);
-      header = b .before .before .before .header-of .ensures;
+      header = b .before .before .before .read-header .ensures;
       groups = d .walk-groups .ensures .ended (c .before .before .before .if2 .left);
     }
 
@@ -62,5 +62,5 @@ returns-4 c =
 pub walk-file-spec : {M : Type 1} → statement M
 walk-file-spec =
     tie.close
-    (tie.spec (search needs) (λ c κs. c .header-of .ensures) returns (search needs) (search needs) walk-groups-requires (search needs) returns-2
+    (tie.spec (search needs) (λ c κs. c .read-header .ensures) returns (search needs) (search needs) walk-groups-requires (search needs) returns-2
     walk-stores-requires (search needs) returns-3 ask-reached-requires (search needs) returns-4)

@@ -78,7 +78,7 @@ loop-again c =
     let r = d .step-group .result in
     let e = ap (λ (h : Header). h .temperatures) (a .pre .header) in
     group-passed _ (a .pre .head) (b .loop .inv) (d .before .before .before .loop-test .taken) (d .step-group .ensures) (c .before .before .before .before .if1 .left)
-    (c .before .before .plus-group .ensures ∙ ap (λ (ts : List ℤ). plusGroup (a .args .summing) (b .loop .totals) (groupAnswer (r .group) ts (r .coefficients))) e)
+    (c .before .before .add-group .ensures ∙ ap (λ (ts : List ℤ). plusGroup (a .args .summing) (b .loop .totals) (groupAnswer (r .group) ts (r .coefficients))) e)
 
 same-length-2 : tie.Need-same-length-2 Inv-loop μ-loop
 same-length-2 c = c .before .before .loop .inv .room ∙ sym (ap length (c .before .before .before .before .before .before .pre .none-summed))

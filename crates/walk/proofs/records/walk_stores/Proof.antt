@@ -73,7 +73,7 @@ loop-again c =
     let d = c .before .before .before .before .before .before .before in
     let b = d .before .before .before .before in
     store-passed _ (b .before .before .before .pre .head) (b .loop .inv) (d .before .before .before .loop-test .taken) (d .step-store .ensures) (c .before .before .before .before .if1 .left)
-    (c .before .before .plus-store .ensures)
+    (c .before .before .add-store .ensures)
 
 same-length-2 : tie.Need-same-length-2 Inv-loop μ-loop
 same-length-2 c = c .before .before .loop .inv .room ∙ sym (c .before .before .before .before .before .pre .groups .passed .room)

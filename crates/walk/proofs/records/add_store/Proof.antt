@@ -4,8 +4,8 @@ use mathlib.Core.Path.{refl, ap, _∙_}
 use Rattle.sums.proofs.Choices.{yes, no}
 use Rattle.totals.specs.Totals.{plusIn}
 use Rattle.walk.specs.Walked.{plusStore}
-use Rattle.walk.proofs.records.plus_store.Statement.{statement}
-use Rattle.walk.proofs.records.plus_store.Tie as tie
+use Rattle.walk.proofs.records.add_store.Statement.{statement}
+use Rattle.walk.proofs.records.add_store.Tie as tie
 
 returns : tie.Need-returns
 unfolding plusStore
@@ -18,5 +18,5 @@ returns-2 : tie.Need-returns-2
 unfolding plusStore
 returns-2 c = no _ _ _ _ (c .if1 .left) refl
 
-pub plus-store-spec : {M : Type 1} → statement M
-plus-store-spec = tie.close (tie.spec (search needs) (search needs) (search needs) returns returns-2)
+pub add-store-spec : {M : Type 1} → statement M
+add-store-spec = tie.close (tie.spec (search needs) (search needs) (search needs) returns returns-2)

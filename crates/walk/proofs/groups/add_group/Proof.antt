@@ -5,8 +5,8 @@ use Rattle.sums.proofs.Choices.{yes, no}
 use Rattle.vehicles.specs.declared.rule.GroupAnswer.{GroupAnswer}
 use Rattle.totals.specs.Totals.{plusToIn}
 use Rattle.walk.specs.Walked.{plusGroup}
-use Rattle.walk.proofs.groups.plus_group.Statement.{statement}
-use Rattle.walk.proofs.groups.plus_group.Tie as tie
+use Rattle.walk.proofs.groups.add_group.Statement.{statement}
+use Rattle.walk.proofs.groups.add_group.Tie as tie
 
 returns : tie.Need-returns
 unfolding plusGroup
@@ -21,5 +21,5 @@ returns-2 : tie.Need-returns-2
 unfolding plusGroup
 returns-2 c = no _ _ _ _ (c .if1 .left) refl
 
-pub plus-group-spec : {M : Type 1} → statement M
-plus-group-spec = tie.close (tie.spec (search needs) (search needs) (search needs) returns returns-2)
+pub add-group-spec : {M : Type 1} → statement M
+add-group-spec = tie.close (tie.spec (search needs) (search needs) (search needs) returns returns-2)

@@ -1,0 +1,98 @@
+/* Calls the library by its header, on 01's surveyed examples and a slot file, as another tool would.
+
+       interface FILE LISTING
+
+   FILE is an accepted slot file and LISTING what the program prints of it. */
+#include "tezhebul.h"
+
+#include <stdio.h>
+#include <stdlib.h>
+#include <string.h>
+
+enum { MOST = 65536 };
+
+static void expect(int holds, const char *what)
+{
+    if (!holds) {
+        fprintf(stderr, "not as it should be: %s\n", what);
+        exit(1);
+    }
+}
+
+/* An emission's code, and its two figures, rounded as the header says. */
+static void expect_emission(const uint64_t *numbers, uint64_t code, uint64_t annual, uint64_t peak, const char *what)
+{
+    uint64_t year = numbers[1] + (numbers[2] >= TEZHEBUL_ANNUAL_DENOMINATOR / 2);
+    uint64_t rate = numbers[3] + (numbers[4] >= TEZHEBUL_PEAK_DENOMINATOR / 2);
+    expect(numbers[0] == code && year == annual && rate == peak, what);
+    expect(numbers[2] < TEZHEBUL_ANNUAL_DENOMINATOR && numbers[4] < TEZHEBUL_PEAK_DENOMINATOR, what);
+}
+
+/* 01's examples E, G and H. */
+static void stores(void)
+{
+    uint64_t out[TEZHEBUL_STORE_NUMBERS];
+    expect(tezhebul_handling(3, 1, 5, 20, 50, 10, 1, 1200, 4, out, TEZHEBUL_STORE_NUMBERS) && out[0] == 0, "E");
+    expect_emission(out + 2, 2909, 3894065, 1764000, "E, figures");
+    expect(tezhebul_standing(2, 1, 1, 30, 5, 1, 2, 100, 0, out, TEZHEBUL_STORE_NUMBERS) && out[0] == 0, "G");
+    expect_emission(out + 2, 2908, 5165597, 2340000, "G, figures");
+    expect(tezhebul_aspiration(1, 1, 500, 2000, 9500, 1000, out, TEZHEBUL_STORE_NUMBERS) && out[0] == 0, "H");
+    expect_emission(out + 2, 152, 180000, 500000, "H, figures");
+    expect(tezhebul_handling(3, 1, 5, 141, 50, 10, 1, 1200, 4, out, TEZHEBUL_STORE_NUMBERS) && out[0] == 9 && out[2] == 0, "wind 14.1");
+    expect(!tezhebul_standing(2, 1, 1, 30, 5, 1, 2, 100, 0, out, TEZHEBUL_STORE_NUMBERS - 1) && out[0] == 9, "no room");
+}
+
+/* 01's examples B, C and D. */
+static void group(uint8_t flags, uint64_t annual, uint64_t peak, const char *what)
+{
+    uint32_t distances[TEZHEBUL_DISTANCES] = {100, 300, 100, 300};
+    uint8_t days[TEZHEBUL_MONTHS];
+    int16_t temperatures[TEZHEBUL_MONTHS];
+    uint32_t coefficients[TEZHEBUL_COEFFICIENTS] = {40000, 40000, 40000, 100000, 100000, 100000, 20000};
+    uint64_t out[TEZHEBUL_GROUP_NUMBERS];
+    for (int month = 0; month < TEZHEBUL_MONTHS; month++) {
+        days[month] = 20;
+        temperatures[month] = 100;
+    }
+    expect(tezhebul_group(1, 1, flags, 10, 4, 50, 100, 100, 10, distances, TEZHEBUL_DISTANCES, days, TEZHEBUL_MONTHS, temperatures, TEZHEBUL_MONTHS,
+                          coefficients, TEZHEBUL_COEFFICIENTS, out, TEZHEBUL_GROUP_NUMBERS) && out[0] == 0, what);
+    expect_emission(out + 2, 337, annual, peak, what);
+    expect_emission(out + 2 + 5 * TEZHEBUL_EMISSION_NUMBERS, 184, 0, 0, what);
+    expect(!tezhebul_group(1, 1, flags, 10, 4, 50, 100, 100, 10, distances, TEZHEBUL_DISTANCES, days, TEZHEBUL_MONTHS - 1, temperatures, TEZHEBUL_MONTHS,
+                           coefficients, TEZHEBUL_COEFFICIENTS, out, TEZHEBUL_GROUP_NUMBERS), "eleven months");
+}
+
+static size_t whole(const char *name, uint8_t *room)
+{
+    FILE *file = fopen(name, "rb");
+    expect(file != NULL, name);
+    size_t length = fread(room, 1, MOST, file);
+    fclose(file);
+    return length;
+}
+
+static void file(const char *slots, const char *listing)
+{
+    static uint8_t data[MOST], expected[MOST], buffer[TEZHEBUL_LISTING_MOST];
+    uint64_t out[TEZHEBUL_NUMBERS], listed[TEZHEBUL_NUMBERS];
+    size_t length = whole(slots, data);
+    size_t most = whole(listing, expected);
+    expect(tezhebul_check(data, length) == 0, "an accepted file");
+    expect(tezhebul_check(data, length - 64) == 3 * 65536, "a slot lost");
+    expect(tezhebul_answer(data, length, out, TEZHEBUL_NUMBERS) && out[0] == 0, "its answer");
+    expect(!tezhebul_answer(data, length, out, TEZHEBUL_NUMBERS - 1), "no room for its numbers");
+    expect(tezhebul_list(data, length, buffer, most - 1, listed, TEZHEBUL_NUMBERS) == 0 && listed[0] == 13, "a short buffer");
+    expect(tezhebul_list(data, length, buffer, sizeof buffer, listed, TEZHEBUL_NUMBERS) == most, "its listing");
+    expect(memcmp(buffer, expected, most) == 0 && memcmp(out, listed, sizeof out) == 0, "its listing's bytes and numbers");
+}
+
+int main(int count, char **words)
+{
+    expect(count == 3, "interface FILE LISTING");
+    stores();
+    group(0, 24000, 177778, "B");
+    group(TEZHEBUL_CONTROLLED, 20160, 146667, "C");
+    group(TEZHEBUL_HEATED, 16800, 111111, "D");
+    file(words[1], words[2]);
+    puts("the library by its header: as it should be");
+}
