@@ -46,62 +46,51 @@ pub fn compare(seed: u64, index: u64, tally: &mut Rules) -> Result<(), Differenc
 
 fn handling(random: &mut Random, calls: &mut Calls) -> Result<(), Difference> {
     let source = sources::handling(random);
-    said("handling", &source, calls, || {
-        let plain = plain::Handling {
-            dust: source.dust.into(),
-            store: source.store.into(),
-            material: source.material.into(),
-            wind: source.wind.into(),
-            moisture: source.moisture.into(),
-            grain: source.grain.into(),
-            openness: source.openness.into(),
-            drop: source.drop.into(),
-            amount: source.amount,
-        };
-        (
-            library(tezhebul::handling(&source).map(|given| [given])),
-            plain::handling(&plain).map(|given| [of_plain(given)]),
-        )
-    })
+    let plain = plain::Handling {
+        bulk: plain_bulk(&source.bulk),
+        drop: source.drop.into(),
+    };
+    said_of_store(
+        "handling",
+        &source,
+        calls,
+        || tezhebul::handling(&source),
+        || plain::handling(&plain),
+    )
 }
 
 fn standing(random: &mut Random, calls: &mut Calls) -> Result<(), Difference> {
     let source = sources::standing(random);
-    said("standing", &source, calls, || {
-        let plain = plain::Standing {
-            dust: source.dust.into(),
-            store: source.store.into(),
-            material: source.material.into(),
-            wind: source.wind.into(),
-            moisture: source.moisture.into(),
-            grain: source.grain.into(),
-            openness: source.openness.into(),
-            k6: source.k6.into(),
-            amount: source.amount,
-        };
-        (
-            library(tezhebul::standing(&source).map(|given| [given])),
-            plain::standing(&plain).map(|given| [of_plain(given)]),
-        )
-    })
+    let plain = plain::Standing {
+        bulk: plain_bulk(&source.bulk),
+        k6: source.k6.into(),
+    };
+    said_of_store(
+        "standing",
+        &source,
+        calls,
+        || tezhebul::standing(&source),
+        || plain::standing(&plain),
+    )
 }
 
 fn aspiration(random: &mut Random, calls: &mut Calls) -> Result<(), Difference> {
     let source = sources::aspiration(random);
-    said("aspiration", &source, calls, || {
-        let plain = plain::Aspiration {
-            dust: source.dust.into(),
-            store: source.store.into(),
-            concentration: source.concentration,
-            gas: source.flow,
-            capture: source.capture.into(),
-            hours: source.hours.into(),
-        };
-        (
-            library(tezhebul::aspiration(&source).map(|given| [given])),
-            plain::aspiration(&plain).map(|given| [of_plain(given)]),
-        )
-    })
+    let plain = plain::Aspiration {
+        dust: source.dust.into(),
+        store: source.store.into(),
+        concentration: source.concentration,
+        gas: source.flow,
+        capture: source.capture.into(),
+        hours: source.hours.into(),
+    };
+    said_of_store(
+        "aspiration",
+        &source,
+        calls,
+        || tezhebul::aspiration(&source),
+        || plain::aspiration(&plain),
+    )
 }
 
 fn group(random: &mut Random, calls: &mut Calls) -> Result<(), Difference> {
@@ -129,6 +118,19 @@ fn group(random: &mut Random, calls: &mut Calls) -> Result<(), Difference> {
     })
 }
 
+fn plain_bulk(bulk: &tezhebul::Bulk) -> plain::Bulk {
+    plain::Bulk {
+        dust: bulk.dust.into(),
+        store: bulk.store.into(),
+        material: bulk.material.into(),
+        wind: bulk.wind.into(),
+        moisture: bulk.moisture.into(),
+        grain: bulk.grain.into(),
+        openness: bulk.openness.into(),
+        amount: bulk.amount,
+    }
+}
+
 fn plain_group(group: &tezhebul::Group) -> plain::Group {
     plain::Group {
         category: group.category.into(),
@@ -143,6 +145,22 @@ fn plain_group(group: &tezhebul::Group) -> plain::Group {
         distances: group.distances,
         days: group.days.map(u32::from),
     }
+}
+
+/// Compares what both sides say of a store record, which gives one emission.
+fn said_of_store(
+    rule: &str,
+    source: &impl Debug,
+    calls: &mut Calls,
+    library_rule: impl FnOnce() -> Result<tezhebul::Emission, tezhebul::Refusal>,
+    plain_rule: impl FnOnce() -> Result<plain::Emission, plain::Refusal>,
+) -> Result<(), Difference> {
+    said(rule, source, calls, || {
+        (
+            library(library_rule().map(|given| [given])),
+            plain_rule().map(|given| [of_plain(given)]),
+        )
+    })
 }
 
 /// Compares what both sides say, the library first.

@@ -2,7 +2,7 @@
 //! just past its range, some with any values that the C interface takes.
 
 use inputs::Random;
-use tezhebul::{Aspiration, Coefficients, Group, Handling, Standing};
+use tezhebul::{Aspiration, Bulk, Coefficients, Group, Handling, Standing};
 
 use crate::values::{banded, range, Draw, Range};
 
@@ -37,14 +37,7 @@ const LEAD: usize = 5;
 pub fn handling(random: &mut Random) -> Handling {
     let mut draw = Draw::new(random, 9);
     Handling {
-        dust: draw.u8(DUST),
-        store: draw.u16(STORE),
-        material: draw.u8(MATERIAL),
-        wind: draw.u16(WIND),
-        moisture: draw.u16(MOISTURE),
-        grain: draw.u16(GRAIN),
-        openness: draw.u8(OPENNESS),
-        amount: draw.u32(MILLION),
+        bulk: bulk(&mut draw),
         drop: draw.u8(DROP),
     }
 }
@@ -53,6 +46,13 @@ pub fn standing(random: &mut Random) -> Standing {
     let missing = random.once_in(4);
     let mut draw = Draw::new(random, 9);
     Standing {
+        bulk: bulk(&mut draw),
+        k6: if missing { 0 } else { draw.u16(K6) },
+    }
+}
+
+fn bulk(draw: &mut Draw) -> Bulk {
+    Bulk {
         dust: draw.u8(DUST),
         store: draw.u16(STORE),
         material: draw.u8(MATERIAL),
@@ -61,7 +61,6 @@ pub fn standing(random: &mut Random) -> Standing {
         grain: draw.u16(GRAIN),
         openness: draw.u8(OPENNESS),
         amount: draw.u32(MILLION),
-        k6: if missing { 0 } else { draw.u16(K6) },
     }
 }
 

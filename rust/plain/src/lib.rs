@@ -14,7 +14,7 @@ mod walk;
 
 pub use codes::CODES;
 pub use listing::LONGEST;
-pub use stores::{aspiration, handling, standing, Aspiration, Handling, Standing};
+pub use stores::{aspiration, handling, standing, Aspiration, Bulk, Handling, Standing};
 pub use sums::{Emission, ANNUAL_DENOMINATOR, PEAK_DENOMINATOR};
 pub use vehicles::{group, Coefficients, Group, Temperatures};
 

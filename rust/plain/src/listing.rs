@@ -55,6 +55,16 @@ impl Text {
         }
         self.push(&digits[start..]);
     }
+
+    /// A word and two whole numbers, "parted by spaces".
+    fn push_line(&mut self, word: &[u8], numbers: [u16; 2]) {
+        self.push(word);
+        for number in numbers {
+            self.push(b" ");
+            self.push_number(u64::from(number), 0);
+        }
+        self.push(b"\n");
+    }
 }
 
 /// "heading; code, tonnes, grams per second; then groups and store records"
@@ -69,21 +79,13 @@ pub fn listing(answer: &Answer) -> Text {
         text.push_number(answer.peak[place], 7);
         text.push(b"\n");
     }
-    text.push(b"sources ");
-    text.push_number(u64::from(answer.groups), 0);
-    text.push(b" ");
-    text.push_number(u64::from(answer.stores), 0);
-    text.push(b"\n");
+    text.push_line(b"sources", [answer.groups, answer.stores]);
     text
 }
 
 /// "`refused`, number and slot, parted by spaces"
 pub fn refusal_line(refusal: Refusal) -> Text {
     let mut text = Text::new();
-    text.push(b"refused ");
-    text.push_number(u64::from(refusal.number), 0);
-    text.push(b" ");
-    text.push_number(u64::from(refusal.slot), 0);
-    text.push(b"\n");
+    text.push_line(b"refused", [u16::from(refusal.number), refusal.slot]);
     text
 }

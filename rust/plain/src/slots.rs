@@ -1,6 +1,6 @@
 //! Reading the fields of a slot (01, "The slot file").
 
-use crate::stores::{Aspiration, Handling, Standing, Store};
+use crate::stores::{Aspiration, Bulk, Handling, Standing, Store};
 use crate::vehicles::{Coefficients, Group, Temperatures};
 
 /// "Slots of 64 bytes"
@@ -125,9 +125,9 @@ pub fn store(slot: &Slot) -> Option<Store> {
     }
 }
 
-/// "Handling and standing: 6 material" and on, "Handling only: 15 drop class".
-fn handling(slot: &Slot) -> Handling {
-    Handling {
+/// "Handling and standing: 6 material" and on.
+fn bulk(slot: &Slot) -> Bulk {
+    Bulk {
         dust: byte(slot, 3),
         store: wide2(slot, 4),
         material: byte(slot, 6),
@@ -135,23 +135,23 @@ fn handling(slot: &Slot) -> Handling {
         moisture: wide2(slot, 10),
         grain: wide2(slot, 12),
         openness: byte(slot, 14),
-        drop: byte(slot, 15),
         amount: number4(slot, 20),
     }
 }
 
-/// The same, with "Standing only: 16..17 K6".
+/// "Handling only: 15 drop class".
+fn handling(slot: &Slot) -> Handling {
+    Handling {
+        bulk: bulk(slot),
+        drop: byte(slot, 15),
+    }
+}
+
+/// "Standing only: 16..17 K6".
 fn standing(slot: &Slot) -> Standing {
     Standing {
-        dust: byte(slot, 3),
-        store: wide2(slot, 4),
-        material: byte(slot, 6),
-        wind: wide2(slot, 8),
-        moisture: wide2(slot, 10),
-        grain: wide2(slot, 12),
-        openness: byte(slot, 14),
+        bulk: bulk(slot),
         k6: wide2(slot, 16),
-        amount: number4(slot, 20),
     }
 }
 

@@ -4,9 +4,9 @@ use crate::codes;
 use crate::sums::Emission;
 use crate::Refusal;
 
-/// A handling record, with the ranges of 01, "Store record".
+/// What handling and standing records have in common, with the ranges of 01, "Store record".
 #[derive(Clone, Copy, Debug, PartialEq, Eq)]
-pub struct Handling {
+pub struct Bulk {
     /// 1 for 0152, 2 for 2908, 3 for 2909.
     pub dust: u32,
     /// Store number.
@@ -19,25 +19,24 @@ pub struct Handling {
     /// Millimetres.
     pub grain: u32,
     pub openness: u32,
-    pub drop: u32,
-    /// Kilograms per 20 minutes.
+    /// Kilograms per 20 minutes of handling, square metres of standing.
     pub amount: u32,
+}
+
+/// A handling record.
+#[derive(Clone, Copy, Debug, PartialEq, Eq)]
+pub struct Handling {
+    pub bulk: Bulk,
+    /// Drop class.
+    pub drop: u32,
 }
 
 /// A standing record.
 #[derive(Clone, Copy, Debug, PartialEq, Eq)]
 pub struct Standing {
-    pub dust: u32,
-    pub store: u32,
-    pub material: u32,
-    pub wind: u32,
-    pub moisture: u32,
-    pub grain: u32,
-    pub openness: u32,
+    pub bulk: Bulk,
     /// Hundredths; 0 for missing.
     pub k6: u32,
-    /// Square metres.
-    pub amount: u32,
 }
 
 /// An aspiration record.
@@ -63,26 +62,23 @@ pub enum Store {
 
 /// What a handling record gives, or refusal 9.
 pub fn handling(record: &Handling) -> Result<Emission, Refusal> {
-    if record.in_range() {
-        Ok(record.emission())
-    } else {
-        Err(Refusal { number: 9, slot: 0 })
-    }
+    given(record.in_range(), || record.emission())
 }
 
 /// What a standing record gives, or refusal 9.
 pub fn standing(record: &Standing) -> Result<Emission, Refusal> {
-    if record.in_range() {
-        Ok(record.emission())
-    } else {
-        Err(Refusal { number: 9, slot: 0 })
-    }
+    given(record.in_range(), || record.emission())
 }
 
 /// What an aspiration record gives, or refusal 9.
 pub fn aspiration(record: &Aspiration) -> Result<Emission, Refusal> {
-    if record.in_range() {
-        Ok(record.emission())
+    given(record.in_range(), || record.emission())
+}
+
+/// The emission of a record in range, else refusal 9.
+fn given(in_range: bool, emission: impl FnOnce() -> Emission) -> Result<Emission, Refusal> {
+    if in_range {
+        Ok(emission())
     } else {
         Err(Refusal { number: 9, slot: 0 })
     }
@@ -162,77 +158,71 @@ fn name_in_range(dust: u32, store: u32) -> bool {
     (1..=3).contains(&dust) && (1..=65_535).contains(&store)
 }
 
-/// "Annual tonnes of both: 31.536 × peak × 0.7", which is 122,640 annual units for a peak unit.
-fn constant_annual(peak: u128) -> u128 {
-    peak * 122_640
-}
-
-impl Handling {
-    /// "Handling and standing: 6 material, 1 to 9" and on, "Handling only: 15 drop class, 1 to 8."
-    pub(crate) fn in_range(&self) -> bool {
+impl Bulk {
+    /// "Handling and standing: 6 material, 1 to 9" and on.
+    fn in_range(&self) -> bool {
         name_in_range(self.dust, self.store)
             && (1..=9).contains(&self.material)
             && self.wind <= 140
             && self.moisture <= 1_000
             && self.grain <= 65_535
             && (1..=7).contains(&self.openness)
-            && (1..=8).contains(&self.drop)
             && self.amount <= 1_000_000
+    }
+
+    /// K1 and K2 in hundredths, Q in thousandths.
+    fn material(&self) -> (u64, u64, u64) {
+        MATERIALS[self.material as usize - 1]
+    }
+
+    /// K3 K4 K5 K7, in 10^-7: below 10^9.
+    fn factors(&self) -> u64 {
+        k3(self.wind) * K4[self.openness as usize - 1] * k5(self.moisture) * k7(self.grain)
+    }
+
+    /// "Annual tonnes of both: 31.536 × peak × 0.7", which is 122,640 annual units for a peak unit.
+    fn emission(&self, peak: u128) -> Emission {
+        Emission {
+            code: dust_code(self.dust),
+            annual: peak * 122_640,
+            peak,
+        }
+    }
+}
+
+impl Handling {
+    /// "Handling only: 15 drop class, 1 to 8."
+    pub(crate) fn in_range(&self) -> bool {
+        self.bulk.in_range() && (1..=8).contains(&self.drop)
     }
 
     /// "Handling peak: 10,000 × K1 K2 K3 K4 K5 K7 × tonnes × B' / 12." The scales of the factors
     /// make 10^15, so the product counts 1/(12 × 10^11) g/s, 30 peak units. It is below 10^16.
     pub(crate) fn emission(&self) -> Emission {
-        let (k1, k2, _) = MATERIALS[self.material as usize - 1];
+        let (k1, k2, _) = self.bulk.material();
         let product = k1
             * k2
-            * k3(self.wind)
-            * K4[self.openness as usize - 1]
-            * k5(self.moisture)
-            * k7(self.grain)
-            * u64::from(self.amount)
+            * self.bulk.factors()
+            * u64::from(self.bulk.amount)
             * DROPS[self.drop as usize - 1];
-        let peak = u128::from(product) * 30;
-        Emission {
-            code: dust_code(self.dust),
-            annual: constant_annual(peak),
-            peak,
-        }
+        self.bulk.emission(u128::from(product) * 30)
     }
 }
 
 impl Standing {
-    /// The same, with "Standing only: 16..17 K6 in hundredths, 100 to 200, or 0 for missing".
+    /// "Standing only: 16..17 K6 in hundredths, 100 to 200, or 0 for missing"
     pub(crate) fn in_range(&self) -> bool {
-        name_in_range(self.dust, self.store)
-            && (1..=9).contains(&self.material)
-            && self.wind <= 140
-            && self.moisture <= 1_000
-            && self.grain <= 65_535
-            && (1..=7).contains(&self.openness)
-            && (self.k6 == 0 || (100..=200).contains(&self.k6))
-            && self.amount <= 1_000_000
+        self.bulk.in_range() && (self.k6 == 0 || (100..=200).contains(&self.k6))
     }
 
     /// "Standing peak: K3 K4 K5 K6 K7 Q × area." The scales of the factors make 10^12, so the
     /// product counts 36 peak units. It is below 10^17.
     pub(crate) fn emission(&self) -> Emission {
-        let (_, _, q) = MATERIALS[self.material as usize - 1];
+        let (_, _, q) = self.bulk.material();
         // "or 0 for missing, which counts as 130"
         let k6 = if self.k6 == 0 { 130 } else { self.k6 };
-        let product = k3(self.wind)
-            * K4[self.openness as usize - 1]
-            * k5(self.moisture)
-            * u64::from(k6)
-            * k7(self.grain)
-            * q
-            * u64::from(self.amount);
-        let peak = u128::from(product) * 36;
-        Emission {
-            code: dust_code(self.dust),
-            annual: constant_annual(peak),
-            peak,
-        }
+        let product = self.bulk.factors() * u64::from(k6) * q * u64::from(self.bulk.amount);
+        self.bulk.emission(u128::from(product) * 36)
     }
 }
 

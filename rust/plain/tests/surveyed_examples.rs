@@ -1,8 +1,8 @@
 //! The rules on their own, by the surveyed examples of 01.
 
 use plain::{
-    aspiration, group, handling, standing, Aspiration, Coefficients, Group, Handling, Refusal,
-    Standing, ANNUAL_DENOMINATOR, PEAK_DENOMINATOR,
+    aspiration, group, handling, standing, Aspiration, Bulk, Coefficients, Group, Handling,
+    Refusal, Standing, ANNUAL_DENOMINATOR, PEAK_DENOMINATOR,
 };
 
 const CAR: Group = Group {
@@ -20,27 +20,31 @@ const CAR: Group = Group {
 };
 
 const COAL: Handling = Handling {
-    dust: 2,
-    store: 1,
-    material: 5,
-    wind: 20,
-    moisture: 50,
-    grain: 10,
-    openness: 1,
+    bulk: Bulk {
+        dust: 2,
+        store: 1,
+        material: 5,
+        wind: 20,
+        moisture: 50,
+        grain: 10,
+        openness: 1,
+        amount: 1_200,
+    },
     drop: 4,
-    amount: 1_200,
 };
 
 const LIMESTONE: Standing = Standing {
-    dust: 3,
-    store: 1,
-    material: 1,
-    wind: 30,
-    moisture: 5,
-    grain: 1,
-    openness: 2,
+    bulk: Bulk {
+        dust: 3,
+        store: 1,
+        material: 1,
+        wind: 30,
+        moisture: 5,
+        grain: 1,
+        openness: 2,
+        amount: 100,
+    },
     k6: 0,
-    amount: 100,
 };
 
 const FAN: Aspiration = Aspiration {
@@ -51,6 +55,13 @@ const FAN: Aspiration = Aspiration {
     capture: 9_500,
     hours: 1_000,
 };
+
+fn coal_in_wind(wind: u32) -> Handling {
+    Handling {
+        bulk: Bulk { wind, ..COAL.bulk },
+        ..COAL
+    }
+}
 
 fn only_co() -> [Coefficients; 6] {
     let mut coefficients = [Coefficients::default(); 6];
@@ -107,7 +118,7 @@ fn car_warm_up_edges() {
 fn coal_handling() {
     let given = handling(&COAL).unwrap();
     assert!(is(given.peak, PEAK_DENOMINATOR, 1_764, 10_000));
-    let windy = handling(&Handling { wind: 21, ..COAL }).unwrap();
+    let windy = handling(&coal_in_wind(21)).unwrap();
     assert!(is(windy.peak, PEAK_DENOMINATOR, 21_168, 100_000));
     assert!(is(
         windy.annual,
@@ -115,8 +126,8 @@ fn coal_handling() {
         220_752 * 21_168,
         1_000_000_000
     ));
-    assert!(handling(&Handling { wind: 140, ..COAL }).is_ok());
-    assert_eq!(handling(&Handling { wind: 141, ..COAL }), Err(refused(9)));
+    assert!(handling(&coal_in_wind(140)).is_ok());
+    assert_eq!(handling(&coal_in_wind(141)), Err(refused(9)));
 }
 
 /// Row G.

@@ -3,7 +3,7 @@
 //! Each call hands over slices only, so no pointer is null and the memory behind it is the
 //! caller's for the length of the call, which is what the header asks.
 
-use crate::rules::{Aspiration, Group, Handling, Standing};
+use crate::rules::{Aspiration, Bulk, Group, Handling, Standing};
 
 /// TEZHEBUL_NUMBERS
 pub const NUMBERS: usize = 24;
@@ -125,47 +125,19 @@ pub fn list(file: &[u8], buffer: &mut [u8], out: &mut [u64]) -> usize {
 
 /// False, and nothing written, where `out` has room for fewer than `STORE_NUMBERS`.
 pub fn handling(source: &Handling, out: &mut [u64]) -> bool {
-    // SAFETY: the pointer and length are those of a slice that may be written.
-    unsafe {
-        tezhebul_handling(
-            source.dust,
-            source.store,
-            source.material,
-            source.wind,
-            source.moisture,
-            source.grain,
-            source.openness,
-            source.amount,
-            source.drop,
-            out.as_mut_ptr(),
-            out.len(),
-        )
-    }
+    // SAFETY: the function is one of the header.
+    unsafe { bulk(tezhebul_handling, &source.bulk, source.drop, out) }
 }
 
 /// The same of a standing record.
 pub fn standing(source: &Standing, out: &mut [u64]) -> bool {
-    // SAFETY: as in `handling`.
-    unsafe {
-        tezhebul_standing(
-            source.dust,
-            source.store,
-            source.material,
-            source.wind,
-            source.moisture,
-            source.grain,
-            source.openness,
-            source.amount,
-            source.k6,
-            out.as_mut_ptr(),
-            out.len(),
-        )
-    }
+    // SAFETY: the function is one of the header.
+    unsafe { bulk(tezhebul_standing, &source.bulk, source.k6, out) }
 }
 
 /// The same of an aspiration record.
 pub fn aspiration(source: &Aspiration, out: &mut [u64]) -> bool {
-    // SAFETY: as in `handling`.
+    // SAFETY: as in `bulk`.
     unsafe {
         tezhebul_aspiration(
             source.dust,
@@ -204,6 +176,32 @@ pub fn group(source: &Group, temperatures: &[i16], coefficients: &[u32], out: &m
             temperatures.len(),
             coefficients.as_ptr(),
             coefficients.len(),
+            out.as_mut_ptr(),
+            out.len(),
+        )
+    }
+}
+
+/// `tezhebul_handling`, whose last value is the drop, or `tezhebul_standing`, whose last is K6.
+type BulkRule<Last> =
+    unsafe extern "C" fn(u8, u16, u8, u16, u16, u16, u8, u32, Last, *mut u64, usize) -> bool;
+
+/// # Safety
+///
+/// `rule` is a function of the header.
+unsafe fn bulk<Last>(rule: BulkRule<Last>, bulk: &Bulk, last: Last, out: &mut [u64]) -> bool {
+    // SAFETY: the pointer and length are those of a slice that may be written.
+    unsafe {
+        rule(
+            bulk.dust,
+            bulk.store,
+            bulk.material,
+            bulk.wind,
+            bulk.moisture,
+            bulk.grain,
+            bulk.openness,
+            bulk.amount,
+            last,
             out.as_mut_ptr(),
             out.len(),
         )

@@ -23,10 +23,10 @@
 //! [`aspiration`] and [`group`] give its emissions as exact fractions.
 //!
 //! ```
-//! use tezhebul::{handling, Handling, Refusal};
+//! use tezhebul::{handling, Bulk, Handling, Refusal};
 //!
 //! // coal that falls 2 metres, 1,200 kg in 20 minutes, at a wind of 2.0 m/s
-//! let coal = Handling {
+//! let coal = Bulk {
 //!     dust: 2,
 //!     store: 1,
 //!     material: 5,
@@ -35,9 +35,8 @@
 //!     grain: 10,
 //!     openness: 1,
 //!     amount: 1_200,
-//!     drop: 4,
 //! };
-//! let given = handling(&coal).expect("each field is in range");
+//! let given = handling(&Handling { bulk: coal, drop: 4 }).expect("each field is in range");
 //! assert_eq!(given.code, 2908);
 //! // 0.1764 grams per second, and no part of a ten-millionth more
 //! assert_eq!((given.peak.whole, given.peak.part), (1_764_000, 0));
@@ -45,8 +44,9 @@
 //! assert_eq!(given.annual.whole, 3_894_065);
 //! assert!(given.annual.part > 0);
 //!
-//! let storm = Handling { wind: 141, ..coal };
-//! assert_eq!(handling(&storm), Err(Refusal { number: 9, slot: 0 }));
+//! let storm = Bulk { wind: 141, ..coal };
+//! let given = handling(&Handling { bulk: storm, drop: 4 });
+//! assert_eq!(given, Err(Refusal { number: 9, slot: 0 }));
 //! ```
 //!
 //! Nothing is rounded or narrowed on the way in: each field has the type of the C interface,
@@ -65,6 +65,6 @@ pub use emission::{Emission, Exact, ANNUAL_DENOMINATOR, PEAK_DENOMINATOR};
 pub use file::{answer, check, list, list_and_answer, Answer};
 pub use refusal::Refusal;
 pub use rules::{
-    aspiration, group, handling, standing, Aspiration, Coefficients, Group, Handling, Standing,
-    CONTROLLED, HEATED,
+    aspiration, group, handling, standing, Aspiration, Bulk, Coefficients, Group, Handling,
+    Standing, CONTROLLED, HEATED,
 };

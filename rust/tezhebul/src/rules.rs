@@ -4,9 +4,9 @@ use crate::emission::{self, Emission};
 use crate::ffi::{self, COEFFICIENTS, GROUP_NUMBERS, STORE_NUMBERS};
 use crate::Refusal;
 
-/// A place where bulk material is poured or loaded.
+/// Bulk material, handled or standing.
 #[derive(Clone, Copy, Debug, PartialEq, Eq)]
-pub struct Handling {
+pub struct Bulk {
     /// 1 for the substance code 0152, 2 for 2908, 3 for 2909.
     pub dust: u8,
     /// The store's number, 1 or more.
@@ -23,8 +23,15 @@ pub struct Handling {
     /// The store is open 1 on four sides, 2 on three, 3 on two in part, 4 on two wholly, 5 on one;
     /// 6 loading sleeve; 7 closed.
     pub openness: u8,
-    /// Kilograms in 20 minutes, 0 to 1,000,000.
+    /// Kilograms in 20 minutes of handling, square metres of standing; 0 to 1,000,000.
     pub amount: u32,
+}
+
+/// A place where bulk material is poured or loaded.
+#[derive(Clone, Copy, Debug, PartialEq, Eq)]
+pub struct Handling {
+    /// What is handled.
+    pub bulk: Bulk,
     /// The class of the drop, 1 to 8: 0.5, 1, 1.5, 2, 4, 6, 8, 10 metres.
     pub drop: u8,
 }
@@ -32,22 +39,8 @@ pub struct Handling {
 /// A heap of bulk material.
 #[derive(Clone, Copy, Debug, PartialEq, Eq)]
 pub struct Standing {
-    /// 1 for the substance code 0152, 2 for 2908, 3 for 2909.
-    pub dust: u8,
-    /// The store's number, 1 or more.
-    pub store: u16,
-    /// 1 to 9, as in [`Handling`].
-    pub material: u8,
-    /// Tenths of a metre per second, 0 to 140.
-    pub wind: u16,
-    /// Tenths of a percent, 0 to 1,000.
-    pub moisture: u16,
-    /// Millimetres, any.
-    pub grain: u16,
-    /// 1 to 7, as in [`Handling`].
-    pub openness: u8,
-    /// Square metres, 0 to 1,000,000.
-    pub amount: u32,
+    /// What stands.
+    pub bulk: Bulk,
     /// K6, the surface's factor, in hundredths, 100 to 200; 0 where it is missing, which counts as
     /// 130.
     pub k6: u16,

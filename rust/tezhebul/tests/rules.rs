@@ -1,43 +1,49 @@
 //! The rules, by the surveyed examples of the scope paper: rows E to J of stores, B to D of groups.
 
 use tezhebul::{
-    aspiration, group, handling, standing, Aspiration, Coefficients, Emission, Exact, Group,
+    aspiration, group, handling, standing, Aspiration, Bulk, Coefficients, Emission, Exact, Group,
     Handling, Refusal, Standing, ANNUAL_DENOMINATOR, CONTROLLED, HEATED, PEAK_DENOMINATOR,
 };
 
 const COAL: Handling = Handling {
-    dust: 2,
-    store: 1,
-    material: 5,
-    wind: 20,
-    moisture: 50,
-    grain: 10,
-    openness: 1,
-    amount: 1_200,
+    bulk: Bulk {
+        dust: 2,
+        store: 1,
+        material: 5,
+        wind: 20,
+        moisture: 50,
+        grain: 10,
+        openness: 1,
+        amount: 1_200,
+    },
     drop: 4,
 };
 
 const LIMESTONE: Standing = Standing {
-    dust: 3,
-    store: 1,
-    material: 1,
-    wind: 30,
-    moisture: 5,
-    grain: 1,
-    openness: 2,
-    amount: 100,
+    bulk: Bulk {
+        dust: 3,
+        store: 1,
+        material: 1,
+        wind: 30,
+        moisture: 5,
+        grain: 1,
+        openness: 2,
+        amount: 100,
+    },
     k6: 0,
 };
 
 const SLAG: Standing = Standing {
-    dust: 2,
-    store: 1,
-    material: 6,
-    wind: 20,
-    moisture: 110,
-    grain: 501,
-    openness: 7,
-    amount: 5,
+    bulk: Bulk {
+        dust: 2,
+        store: 1,
+        material: 6,
+        wind: 20,
+        moisture: 110,
+        grain: 501,
+        openness: 7,
+        amount: 5,
+    },
     k6: 100,
 };
 
@@ -70,6 +76,13 @@ const MUST_BE_ZERO: Refusal = Refusal {
     number: 11,
     slot: 0,
 };
+
+fn coal_in_wind(wind: u16) -> Handling {
+    Handling {
+        bulk: Bulk { wind, ..COAL.bulk },
+        ..COAL
+    }
+}
 
 fn only_co() -> [Coefficients; 6] {
     let mut coefficients = [Coefficients::default(); 6];
@@ -106,10 +119,10 @@ fn coal_handling() {
     let calm = handling(&COAL).unwrap();
     assert_eq!(calm.code, 2908);
     assert_eq!(figures(&calm), (3_894_065, 1_764_000));
-    let windy = handling(&Handling { wind: 21, ..COAL }).unwrap();
+    let windy = handling(&coal_in_wind(21)).unwrap();
     assert_eq!(figures(&windy), (4_672_878, 2_116_800));
-    assert!(handling(&Handling { wind: 140, ..COAL }).is_ok());
-    assert_eq!(handling(&Handling { wind: 141, ..COAL }), Err(OUT_OF_RANGE));
+    assert!(handling(&coal_in_wind(140)).is_ok());
+    assert_eq!(handling(&coal_in_wind(141)), Err(OUT_OF_RANGE));
 }
 
 /// Row G.
@@ -161,7 +174,14 @@ fn slag_standing() {
     assert_eq!(five.peak.whole, 0);
     assert_eq!(five.peak.part, PEAK_DENOMINATOR / 2);
     assert_eq!(figure(1, five.peak), 1);
-    let four = standing(&Standing { amount: 4, ..SLAG }).unwrap();
+    let less = Standing {
+        bulk: Bulk {
+            amount: 4,
+            ..SLAG.bulk
+        },
+        ..SLAG
+    };
+    let four = standing(&less).unwrap();
     assert_eq!(figure(1, four.peak), 0);
 }
 
