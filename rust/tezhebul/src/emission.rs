@@ -89,7 +89,7 @@ pub(crate) fn read<const COUNT: usize>(
             rest.iter().all(|&n| n == 0),
             "a refusal has every figure zero"
         );
-        return Err(Refusal::read(*number, *slot));
+        return Err(Refusal::read(*number, *slot, *number));
     }
     let (emissions, after) = rest.as_chunks();
     assert_eq!(

@@ -17,6 +17,10 @@ pub struct Answer {
     pub peak: [u64; 10],
 }
 
+/// The last question about a file, and the one about a lent buffer.
+const LAST_QUESTION: u64 = 12;
+const BUFFER_QUESTION: u64 = 13;
+
 /// Whether the slot file is accepted; docs/FORMAT.md has its layout. Any bytes may be asked about.
 /// Refused by 1 to 12.
 pub fn check(file: &[u8]) -> Result<(), Refusal> {
@@ -25,6 +29,7 @@ pub fn check(file: &[u8]) -> Result<(), Refusal> {
         word => Err(Refusal::read(
             u64::from(word >> 16),
             u64::from(word & 0xffff),
+            LAST_QUESTION,
         )),
     }
 }
@@ -34,7 +39,7 @@ pub fn answer(file: &[u8]) -> Result<Answer, Refusal> {
     let mut numbers = [0; NUMBERS];
     let written = ffi::answer(file, &mut numbers);
     assert!(written, "there is room for every number");
-    read(&numbers)
+    read(&numbers, LAST_QUESTION)
 }
 
 /// Writes the listing to the start of the buffer and returns its length; no byte behind it is
@@ -51,20 +56,20 @@ pub fn list_and_answer(file: &[u8], buffer: &mut [u8]) -> Result<(usize, Answer)
     let mut numbers = [0; NUMBERS];
     let length = ffi::list(file, buffer, &mut numbers);
     assert!(length <= buffer.len(), "the listing is in the buffer");
-    let listed = read(&numbers);
+    let listed = read(&numbers, BUFFER_QUESTION);
     assert_eq!(length == 0, listed.is_err(), "only a refusal has length 0");
     listed.map(|answer| (length, answer))
 }
 
-/// The numbers in the order of the header.
-fn read(numbers: &[u64; NUMBERS]) -> Result<Answer, Refusal> {
+/// The numbers in the order of the header, where the library may refuse by 1 to `most`.
+fn read(numbers: &[u64; NUMBERS], most: u64) -> Result<Answer, Refusal> {
     let [number, slot, groups, stores, figures @ ..] = numbers;
     if *number != 0 {
         assert!(
             numbers[2..].iter().all(|&n| n == 0),
             "a refusal has every figure and count zero"
         );
-        return Err(Refusal::read(*number, *slot));
+        return Err(Refusal::read(*number, *slot, most));
     }
     assert_eq!(*slot, 0, "an accepted file has slot 0");
     Ok(Answer {

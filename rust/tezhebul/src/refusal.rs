@@ -13,9 +13,9 @@ pub struct Refusal {
 }
 
 impl Refusal {
-    /// Of numbers that the library gave.
-    pub(crate) fn read(number: u64, slot: u64) -> Refusal {
-        assert!((1..=13).contains(&number), "a refusal is numbered 1 to 13");
+    /// Of numbers that the library gave, where it may refuse by 1 to `most`.
+    pub(crate) fn read(number: u64, slot: u64, most: u64) -> Refusal {
+        assert!((1..=most).contains(&number), "refused by 1 to {most}");
         Refusal {
             number: number as u8,
             slot: u16::try_from(slot).expect("a slot is below 65,536"),

@@ -108,9 +108,22 @@ fn figures(given: &Emission) -> (u128, u128) {
 
 #[test]
 fn denominators() {
-    let given = aspiration(&FAN).unwrap();
-    assert_eq!(given.annual.denominator, ANNUAL_DENOMINATOR);
-    assert_eq!(given.peak.denominator, PEAK_DENOMINATOR);
+    // 0.3996 millionths of a tonne, and half a ten-millionth of a gram per second
+    let little = Aspiration {
+        concentration: 1,
+        flow: 1,
+        capture: 0,
+        hours: 111,
+        ..FAN
+    };
+    let year = aspiration(&little).unwrap().annual;
+    assert_eq!((year.whole, year.part), (0, 7_992_000_000_000));
+    assert_eq!(year.denominator, 20_000_000_000_000);
+    assert_eq!(ANNUAL_DENOMINATOR, 20_000_000_000_000);
+    let rate = standing(&SLAG).unwrap().peak;
+    assert_eq!((rate.whole, rate.part), (0, 180_000_000));
+    assert_eq!(rate.denominator, 360_000_000);
+    assert_eq!(PEAK_DENOMINATOR, 360_000_000);
 }
 
 /// Rows E and F.
