@@ -3,7 +3,6 @@
 use Prim.Native.Nat.{ℕ, _*_, _<_}
 use native.Mathlib.Omega.{arith}
 use mathlib.Core.Path.{_≡_, sym, ap, _∙_}
-use mathlib.Core.Bool.{true}
 use mathlib.Core.List.{List, map}
 use lib.Dec.{lit<}
 use lib.IntN.{ℤ}
@@ -14,52 +13,49 @@ use Rattle.sums.specs.Answer.{Contribution}
 use Rattle.slots.specs.declared.store.Store.{Store}
 use Rattle.slot_file.specs.Questions.{accepted}
 use Rattle.slot_file.specs.Walk.{verdict}
-use Rattle.slot_file.specs.Sources.{VehicleGroup, groupsAt, storesAt, temperaturesAt}
+use Rattle.slot_file.specs.Sources.{VehicleGroup, Chains, Inventory, inventoryAt}
 use Rattle.slot_file.specs.Figures.{groupContributions, storeContributions, contributions, exactSum, annualFigure, peakFigure, codes, summed, answered, answer}
-use Rattle.slot_file.specs.Alike.{total, sameGroup, sameStore, alike, AlikeFiles}
+use Rattle.slot_file.specs.Alike.{total, sameGroup, sameStore, AlikeFiles}
 use Rattle.slot_file.proofs.Bag.{alike-total, alike-length}
 use Rattle.slot_file.proofs.Same.{group-sound, group-same, store-sound, store-same}
 use Rattle.slot_file.proofs.Units.{Units, total-contributions, exact-parts}
 use Rattle.slot_file.specs.Parts.{partsTo}
 
-module _ (ts : List ℤ) (gs hs : List VehicleGroup) (rs qs : List Store) (e : alike sameGroup gs hs ≡ true) (l : alike sameStore rs qs ≡ true) where
-  total-alike : (f : Contribution → ℕ) → total f (contributions ts gs rs) ≡ total f (contributions ts hs qs)
+module _ (v w : Inventory) (e : AlikeFiles v w) where
+  total-alike : (f : Contribution → ℕ) → total f (contributions v) ≡ total f (contributions w)
   total-alike f =
       omega (
         arith,
-        total-contributions ts gs rs f,
-        total-contributions ts hs qs f,
-        alike-total sameGroup group-sound group-same (λ (g : VehicleGroup). total f (groupContributions ts g)) gs hs e,
-        alike-total sameStore store-sound store-same (λ (r : Store). total f (storeContributions r)) rs qs l,
+        total-contributions v f,
+        total-contributions w f,
+        ap (λ (ts : List ℤ). total (λ (g : VehicleGroup). total f (groupContributions ts g)) (v .groups)) (e .temperatures),
+        alike-total sameGroup group-sound group-same (λ (g : VehicleGroup). total f (groupContributions (w .temperatures) g)) (v .groups) (w .groups) (e .groups),
+        alike-total sameStore store-sound store-same (λ (r : Store). total f (storeContributions r)) (v .stores) (w .stores) (e .stores),
       )
 
   figure-alike : (f : Contribution → Frac) (k : ℕ) → 0 < k → ((x : Contribution) → Units x → f x ≈ (partsOf k (f x) over k)) → (u c : ℕ)
-      → nearest (exactSum f c (contributions ts gs rs) ⊙ whole u) ≡ nearest (exactSum f c (contributions ts hs qs) ⊙ whole u)
+      → nearest (exactSum f c (contributions v) ⊙ whole u) ≡ nearest (exactSum f c (contributions w) ⊙ whole u)
   figure-alike f k pos exact u c =
-      nearest-same (exact-parts f k pos exact c u ts gs rs)
+      nearest-same (exact-parts f k pos exact c u v)
       ∙ ap (λ (n : ℕ). nearest ((n * u) over (k * 1))) (total-alike (partsTo f k c))
-      ∙ sym (nearest-same (exact-parts f k pos exact c u ts hs qs))
+      ∙ sym (nearest-same (exact-parts f k pos exact c u w))
 
-  pub same-answer : summed ts gs rs ≡ summed ts hs qs
+  pub same-answer : summed v ≡ summed w
   unfolding summed annualFigure peakFigure
   same-answer =
       let a = figure-alike (λ (x : Contribution). x .tonnes) tonneParts (lit< tt) (λ (x : Contribution) (h : Units x). h .annual) 1000000 in
       let p = figure-alike (λ (x : Contribution). x .rate) gramParts (lit< tt) (λ (x : Contribution) (h : Units x). h .peak) 10000000 in
-      let n = alike-length sameGroup group-sound group-same gs hs e in
-      let m = alike-length sameStore store-sound store-same rs qs l in
+      let n = alike-length sameGroup group-sound group-same (v .groups) (w .groups) (e .groups) in
+      let m = alike-length sameStore store-sound store-same (v .stores) (w .stores) (e .stores) in
       λ i. record { number = 0; slot = 0; annual = map (λ (c : ℕ). a c i) codes; peak = map (λ (c : ℕ). p c i) codes; groups = n i; stores = m i }
 
 -- the answer to an accepted file
-pub accepted-answer : (s gs ss : List ℕ) → verdict s ≡ accepted gs ss → answer s ≡ summed (temperaturesAt s) (groupsAt s gs) (storesAt s ss)
+pub accepted-answer : (s : List ℕ) (c : Chains) → verdict s ≡ accepted c → answer s ≡ summed (inventoryAt s c)
 unfolding answer answered
-accepted-answer s gs ss e = rw e
+accepted-answer s c e = rw e
 
 -- DEMAND 3: "Every two such files alike in the twelve temperatures, month by month, in their vehicle groups, each with its own coefficients for the six pollutants,
 -- and in their store records, repeats included, get the same answers: every annual figure, every peak figure and both counts. This holds whatever order either file
 -- has its slots and chains in, and however either shares its coefficient slots": the two accepted files are s and t, with any chains
-pub agreement : (s t gs ss hs qs : List ℕ) → verdict s ≡ accepted gs ss → verdict t ≡ accepted hs qs → AlikeFiles s gs ss t hs qs → answer s ≡ answer t
-agreement s t gs ss hs qs v w a =
-    accepted-answer s gs ss v
-    ∙ ap (λ (ts : List ℤ). summed ts (groupsAt s gs) (storesAt s ss)) (a .temperatures)
-    ∙ same-answer (temperaturesAt t) (groupsAt s gs) (groupsAt t hs) (storesAt s ss) (storesAt t qs) (a .groups) (a .stores)
-    ∙ sym (accepted-answer t hs qs w)
+pub agreement : (s t : List ℕ) (c d : Chains) → verdict s ≡ accepted c → verdict t ≡ accepted d → AlikeFiles (inventoryAt s c) (inventoryAt t d) → answer s ≡ answer t
+agreement s t c d p q a = accepted-answer s c p ∙ same-answer (inventoryAt s c) (inventoryAt t d) a ∙ sym (accepted-answer t d q)

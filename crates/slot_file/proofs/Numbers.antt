@@ -5,7 +5,8 @@ use mathlib.Core.Path.{_≡_}
 use mathlib.Core.List.{List, [], _∷_, _++_}
 use Rattle.slots.specs.Bytes.{slotOf}
 use Rattle.slots.specs.Layout.{groupRead, readStore, readNumber}
-use Rattle.slot_file.specs.Questions.{Question, lastOf, headAsks, linkAsks, coefficientAsks, rowsAsks, closingAsks, groupAsks, storeAsks, reachAsks, lastAsks, accepted, refused}
+use Rattle.slot_file.specs.Sources.{Chains}
+use Rattle.slot_file.specs.Questions.{Question, lastOf, headAsks, sourcesOf, groupsSoFar, storesSoFar, linkAsks, coefficientAsks, rowsAsks, closingAsks, groupAsks, storeAsks, reachAsks, lastAsks, accepted, refused}
 use Rattle.slot_file.specs.Walk.{verdict}
 use Rattle.slot_file.specs.Meaning.{FirstNo, here, later, Refuses, at-head, at-group, at-store, at-last}
 use Rattle.slot_file.specs.Figures.{refusal, answered, answer, summed}
@@ -45,37 +46,37 @@ unfolding rowsAsks
 rows-numbered s g zero = tt
 rows-numbered s g (suc n) = numbered-append (rowsAsks s g n) (coefficientAsks s g n) (rows-numbered s g n) (coefficient-numbered s g n)
 
-group-numbered : (s b : List ℕ) (g : ℕ) → Numbered (groupAsks s b g)
+group-numbered : (s : List ℕ) (c : Chains) (g : ℕ) → Numbered (groupAsks s c g)
 unfolding groupAsks
-group-numbered s b g =
-    let l = linkAsks s (lastOf b) b g (groupRead (slotOf s g) .number) in
+group-numbered s c g =
+    let l = linkAsks s (lastOf (c .groups)) (sourcesOf c) g (groupRead (slotOf s g) .number) in
     numbered-append (l ++ rowsAsks s g 6) (closingAsks s g)
-    (numbered-append l (rowsAsks s g 6) (link-numbered s (lastOf b) b g (groupRead (slotOf s g) .number)) (rows-numbered s g 6)) (closing-numbered s g)
+    (numbered-append l (rowsAsks s g 6) (link-numbered s (lastOf (c .groups)) (sourcesOf c) g (groupRead (slotOf s g) .number)) (rows-numbered s g 6)) (closing-numbered s g)
 
-store-numbered : (s gs b : List ℕ) (k : ℕ) → Numbered (storeAsks s gs b k)
+store-numbered : (s : List ℕ) (c : Chains) (k : ℕ) → Numbered (storeAsks s c k)
 unfolding storeAsks
-store-numbered s gs b k = link-numbered s (lastOf b) (b ++ gs) k (readNumber (readStore (slotOf s k)))
+store-numbered s c k = link-numbered s (lastOf (c .stores)) (sourcesOf c) k (readNumber (readStore (slotOf s k)))
 
 reach-numbered : (n i : ℕ) (l : List ℕ) → Numbered (reachAsks n i l)
 unfolding reachAsks
 reach-numbered zero i l = tt
 reach-numbered (suc n) i l = (omega arith, omega arith, reach-numbered n (i + 1) l)
 
-last-numbered : (s gs ss : List ℕ) → Numbered (lastAsks s gs ss)
+last-numbered : (s : List ℕ) (c : Chains) → Numbered (lastAsks s c)
 unfolding lastAsks
-last-numbered s gs ss = reach-numbered _ _ _
+last-numbered s c = reach-numbered _ _ _
 
 pub refused-number : (s : List ℕ) (n k : ℕ) → Refuses s n k → (1 ≤ n) × (n ≤ 12)
 refused-number s n k (at-head f) = first-numbered (headAsks s) n k (head-numbered s) f
-refused-number s n k (at-group b g h w z f) = first-numbered (groupAsks s b g) n k (group-numbered s b g) f
-refused-number s n k (at-store gs b j h v w z f) = first-numbered (storeAsks s gs b j) n k (store-numbered s gs b j) f
-refused-number s n k (at-last gs ss h v w f) = first-numbered (lastAsks s gs ss) n k (last-numbered s gs ss) f
+refused-number s n k (at-group c j h v z f) = first-numbered _ n k (group-numbered s (groupsSoFar (c .groups)) j) f
+refused-number s n k (at-store c j h v w z f) = first-numbered _ n k (store-numbered s (storesSoFar c (c .stores)) j) f
+refused-number s n k (at-last c h v w f) = first-numbered _ n k (last-numbered s c) f
 
 -- the answer of a refused file has its number, from 1 to 12, and its slot, and all else zero; of an accepted one, the number 0
 pub refused-answer : (s : List ℕ) (n k : ℕ) → verdict s ≡ refused n k → (answer s ≡ refusal n k) × (1 ≤ n) × (n ≤ 12)
 unfolding answer answered
 refused-answer s n k e = let r = refused-number s n k (exactly-when s (refused n k) .0 e) in (rw e, r .0, r .1)
 
-pub accepted-number : (s gs ss : List ℕ) → verdict s ≡ accepted gs ss → answer s .number ≡ 0
+pub accepted-number : (s : List ℕ) (c : Chains) → verdict s ≡ accepted c → answer s .number ≡ 0
 unfolding answer answered summed
-accepted-number s gs ss e = rw e
+accepted-number s c e = rw e

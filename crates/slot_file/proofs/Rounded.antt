@@ -12,7 +12,7 @@ use Rattle.sums.proofs.Rounding.{within, half-up}
 use Rattle.sums.specs.Answer.{Contribution}
 use Rattle.slot_file.specs.Questions.{accepted}
 use Rattle.slot_file.specs.Walk.{verdict}
-use Rattle.slot_file.specs.Sources.{groupAt, storeAt, groupsAt, storesAt, temperaturesAt}
+use Rattle.slot_file.specs.Sources.{groupAt, storeAt, Chains, inventoryAt}
 use Rattle.slot_file.specs.Figures.{contributions, exactSum, annualFigure, peakFigure, codes, summed, answer}
 use Rattle.slot_file.proofs.Units.{Units, exact-parts}
 use Rattle.slot_file.proofs.Agreement.{accepted-answer}
@@ -33,32 +33,31 @@ map-at f (x ∷ l) zero h = refl
 map-at f (x ∷ l) (suc i) h = map-at f l i (le-of-suc-le-suc h)
 
 -- the contributions of an accepted file's sources
-abbrev pub contributionsOf : List ℕ → List ℕ → List ℕ → List Contribution
-contributionsOf s gs ss = contributions (temperaturesAt s) (groupsAt s gs) (storesAt s ss)
+abbrev pub contributionsOf : List ℕ → Chains → List Contribution
+contributionsOf s c = contributions (inventoryAt s c)
 
 -- "In every accepted file each figure equals the exact sum over all sources, the annual one over all months too, rounded once": at each place of the listing, in
 -- millionths of a tonne and ten-millionths of a gram per second, of that place's code
-pub record Figures (s gs ss : List ℕ) (i : ℕ) : Type 0 where
-  pub annual : Rounded (getD (answer s .annual) i 0) (exactSum (λ (x : Contribution). x .tonnes) (getD codes i 0) (contributionsOf s gs ss) ⊙ whole 1000000)
-  pub peak : Rounded (getD (answer s .peak) i 0) (exactSum (λ (x : Contribution). x .rate) (getD codes i 0) (contributionsOf s gs ss) ⊙ whole 10000000)
+pub record Figures (s : List ℕ) (c : Chains) (i : ℕ) : Type 0 where
+  pub annual : Rounded (getD (answer s .annual) i 0) (exactSum (λ (x : Contribution). x .tonnes) (getD codes i 0) (contributionsOf s c) ⊙ whole 1000000)
+  pub peak : Rounded (getD (answer s .peak) i 0) (exactSum (λ (x : Contribution). x .rate) (getD codes i 0) (contributionsOf s c) ⊙ whole 10000000)
 
-module _ (s gs ss : List ℕ) (v : verdict s ≡ accepted gs ss) where
-  pub figure-within : (i : ℕ) → i < 10 → Figures s gs ss i
+module _ (s : List ℕ) (c : Chains) (v : verdict s ≡ accepted c) where
+  pub figure-within : (i : ℕ) → i < 10 → Figures s c i
   unfolding summed annualFigure peakFigure
   figure-within i h =
-      let ts = temperaturesAt s in
-      let a = exact-parts (λ (x : Contribution). x .tonnes) tonneParts (lit< tt) (λ (x : Contribution) (u : Units x). u .annual) (getD codes i 0) 1000000 ts (groupsAt s gs) (storesAt s ss) in
-      let p = exact-parts (λ (x : Contribution). x .rate) gramParts (lit< tt) (λ (x : Contribution) (u : Units x). u .peak) (getD codes i 0) 10000000 ts (groupsAt s gs) (storesAt s ss) in
+      let a = exact-parts (λ (x : Contribution). x .tonnes) tonneParts (lit< tt) (λ (x : Contribution) (u : Units x). u .annual) (getD codes i 0) 1000000 (inventoryAt s c) in
+      let p = exact-parts (λ (x : Contribution). x .rate) gramParts (lit< tt) (λ (x : Contribution) (u : Units x). u .peak) (getD codes i 0) 10000000 (inventoryAt s c) in
       record {
-        annual = rw (accepted-answer s gs ss v, map-at (annualFigure (contributionsOf s gs ss)) codes i h) (rounded _ (a .left));
-        peak = rw (accepted-answer s gs ss v, map-at (peakFigure (contributionsOf s gs ss)) codes i h) (rounded _ (p .left));
+        annual = rw (accepted-answer s c v, map-at (annualFigure (contributionsOf s c)) codes i h) (rounded _ (a .left));
+        peak = rw (accepted-answer s c v, map-at (peakFigure (contributionsOf s c)) codes i h) (rounded _ (p .left));
       }
 
   -- "how many vehicle groups and store records were summed, and those are the lengths of the two chains"
-  pub counts-are : (answer s .groups ≡ length gs) × (answer s .stores ≡ length ss)
-  unfolding summed groupsAt storesAt
+  pub counts-are : (answer s .groups ≡ length (c .groups)) × (answer s .stores ≡ length (c .stores))
+  unfolding summed inventoryAt
   counts-are =
-      let a = accepted-answer s gs ss v in (
-        ap (λ r. r .groups) a ∙ length-map (reverse gs) (groupAt s) ∙ length-reverse gs,
-        ap (λ r. r .stores) a ∙ length-map (reverse ss) (storeAt s) ∙ length-reverse ss,
+      let a = accepted-answer s c v in (
+        ap (λ r. r .groups) a ∙ length-map (reverse (c .groups)) (groupAt s) ∙ length-reverse (c .groups),
+        ap (λ r. r .stores) a ∙ length-map (reverse (c .stores)) (storeAt s) ∙ length-reverse (c .stores),
       )

@@ -19,7 +19,7 @@ use Rattle.stores.proofs.Paper.{handling-counted, standing-counted, aspiration-
 use Rattle.sums.specs.Answer.{Contribution}
 use Rattle.slots.specs.declared.store.Store.{Store}
 use Rattle.slots.specs.declared.store.Store.the-variants.{Handling, Standing, Aspiration}
-use Rattle.slot_file.specs.Sources.{VehicleGroup}
+use Rattle.slot_file.specs.Sources.{VehicleGroup, Inventory}
 use Rattle.slot_file.specs.Figures.{groupContributions, storeContributions, gathered, contributions, exactSum}
 use Rattle.slot_file.specs.Alike.{total}
 use Rattle.slot_file.specs.Parts.{partsTo}
@@ -68,18 +68,27 @@ unfolding gathered
 each-gathered f h [] = tt
 each-gathered f h (x ∷ l) = each-append Units (f x) (gathered f l) (h x) (each-gathered f h l)
 
-module _ (ts : List ℤ) (gs : List VehicleGroup) (rs : List Store) where
-  all-units : Each Units (contributions ts gs rs)
+module _ (v : Inventory) where
+  abbrev given : List Contribution
+  given = gathered (groupContributions (v .temperatures)) (v .groups)
+
+  all-units : Each Units (contributions v)
   unfolding contributions
   all-units =
-      each-append Units (gathered (groupContributions ts) gs) (gathered storeContributions rs) (each-gathered (groupContributions ts) (group-units ts) gs) (each-gathered storeContributions store-units rs)
+      each-append Units given (gathered storeContributions (v .stores)) (each-gathered (groupContributions (v .temperatures)) (group-units (v .temperatures)) (v .groups))
+      (each-gathered storeContributions store-units (v .stores))
 
   -- a total over all contributions is one over the groups and one over the store records
   pub total-contributions : (f : Contribution → ℕ) →
-      total f (contributions ts gs rs) ≡ total (λ (g : VehicleGroup). total f (groupContributions ts g)) gs + total (λ (r : Store). total f (storeContributions r)) rs
+      total f (contributions v) ≡ total (λ (g : VehicleGroup). total f (groupContributions (v .temperatures) g)) (v .groups) + total (λ (r : Store). total f (storeContributions r)) (v .stores)
   unfolding contributions
   total-contributions f =
-      omega (arith, total-append f (gathered (groupContributions ts) gs) (gathered storeContributions rs), total-gathered f (groupContributions ts) gs, total-gathered f storeContributions rs)
+      omega (
+        arith,
+        total-append f given (gathered storeContributions (v .stores)),
+        total-gathered f (groupContributions (v .temperatures)) (v .groups),
+        total-gathered f storeContributions (v .stores),
+      )
 
 module _ (f : Contribution → Frac) (k : ℕ) (pos : 0 < k) (exact : (x : Contribution) → Units x → f x ≈ (partsOf k (f x) over k)) (c : ℕ) where
   sum-parts : (xs : List Contribution) → Each Units xs → exactSum f c xs ≈ (total (partsTo f k c) xs over k)
@@ -93,6 +102,5 @@ module _ (f : Contribution → Frac) (k : ℕ) (pos : 0 < k) (exact : (x : Contr
       go false e = ≈-over (0 + total (partsTo f k c) xs) k pos (omega arith) e
 
   -- the exact sum in printed units, of which one tonne or gram per second has u
-  pub exact-parts : (u : ℕ) (ts : List ℤ) (gs : List VehicleGroup) (rs : List Store) →
-      exactSum f c (contributions ts gs rs) ⊙ whole u ≈ ((total (partsTo f k c) (contributions ts gs rs) * u) over (k * 1))
-  exact-parts u ts gs rs = ≈-⊙ (sum-parts (contributions ts gs rs) (all-units ts gs rs)) (≈-refl u 1 (lit< tt))
+  pub exact-parts : (u : ℕ) (v : Inventory) → exactSum f c (contributions v) ⊙ whole u ≈ ((total (partsTo f k c) (contributions v) * u) over (k * 1))
+  exact-parts u v = ≈-⊙ (sum-parts (contributions v) (all-units v)) (≈-refl u 1 (lit< tt))

@@ -2,11 +2,12 @@
 -- By counting up the questions. Assumes nothing.
 use Prim.Native.Nat.{ℕ, zero, suc, _+_, _-_, _≤_, _<_}
 use mathlib.Core.Path.{_≡_, refl}
-use mathlib.Core.List.{List, [], _∷_, _++_}
+use mathlib.Core.List.{List, [], _∷_}
 use mathlib.Core.Bool.{true, false}
 use native.Mathlib.Omega.{arith}
 use native.Mathlib.Decide.{decLt}
-use Rattle.slot_file.specs.Questions.{Question, question, slotCount, member, reachedBy, reachAsks, lastAsks}
+use Rattle.slot_file.specs.Sources.{Chains}
+use Rattle.slot_file.specs.Questions.{Question, question, slotCount, member, reachedOf, reachAsks, lastAsks}
 use Rattle.slot_file.specs.Meaning.{AllYes, FirstNo, here, later, Accepts}
 
 all-in : (n i : ℕ) (l : List ℕ) → AllYes (reachAsks n i l) → (j : ℕ) → i ≤ j → j < i + n → member j l ≡ true
@@ -16,9 +17,9 @@ all-in (suc n) i l a j p q =
     elim (decLt i j) [ yes h ↦ all-in n (i + 1) l (a .1) j (omega arith) (omega arith) | no h ↦ (let e : i ≡ j = omega arith in rw e at (a .0)) ]
 
 -- every slot from 1 up is reached
-pub all-reached : (s gs ss : List ℕ) → Accepts s gs ss → (j : ℕ) → 1 ≤ j → j < slotCount s → member j (ss ++ reachedBy s gs) ≡ true
+pub all-reached : (s : List ℕ) (c : Chains) → Accepts s c → (j : ℕ) → 1 ≤ j → j < slotCount s → member j (reachedOf s c) ≡ true
 unfolding lastAsks
-all-reached s gs ss a j p q = all-in (slotCount s - 1) 1 (ss ++ reachedBy s gs) (a .last) j p (omega arith)
+all-reached s c a j p q = all-in (slotCount s - 1) 1 (reachedOf s c) (a .last) j p (omega arith)
 
 pub record Lowest (n i : ℕ) (l : List ℕ) (m k : ℕ) : Type 0 where
   pub number : m ≡ 12
@@ -52,6 +53,6 @@ lowest-no (suc n) i l m k f =
     })
 
 -- the slot of a refusal by the last questions is the lowest that is not reached
-pub lowest-unreached : (s gs ss : List ℕ) (n k : ℕ) → FirstNo (lastAsks s gs ss) n k → Lowest (slotCount s - 1) 1 (ss ++ reachedBy s gs) n k
+pub lowest-unreached : (s : List ℕ) (c : Chains) (n k : ℕ) → FirstNo (lastAsks s c) n k → Lowest (slotCount s - 1) 1 (reachedOf s c) n k
 unfolding lastAsks
-lowest-unreached s gs ss n k f = lowest-no (slotCount s - 1) 1 (ss ++ reachedBy s gs) n k f
+lowest-unreached s c n k f = lowest-no (slotCount s - 1) 1 (reachedOf s c) n k f

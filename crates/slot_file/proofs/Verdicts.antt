@@ -13,8 +13,9 @@ use Rattle.sums.specs.Choice.{if_then_else}
 use Rattle.sums.proofs.Choices.{left, right}
 use Rattle.slots.specs.Bytes.{slotOf}
 use Rattle.slots.specs.Layout.{nextOf, headerOf}
-use Rattle.slot_file.specs.Questions.{Question, slotCount, headAsks, member, linkAsks, groupAsks, storeAsks, lastAsks, Verdict, accepted, refused}
-use Rattle.slot_file.specs.Walk.{first, chain, storesAfter, verdict}
+use Rattle.slot_file.specs.Sources.{Chains}
+use Rattle.slot_file.specs.Questions.{Question, slotCount, headAsks, member, linkAsks, sourcesOf, groupsSoFar, storesSoFar, groupAsks, storeAsks, lastAsks, Verdict, accepted, refused}
+use Rattle.slot_file.specs.Walk.{first, chain, afterAll, storeWalk, groupWalk, verdict}
 use Rattle.slot_file.specs.Meaning.{AllYes, Reached, Chain, Good, Groups, Accepts, at-head, at-group, at-store, at-last, Means}
 use Rattle.slot_file.proofs.Asking.{first-yes, first-no, first-both}
 use Rattle.slot_file.proofs.Marks.{Different, different-short}
@@ -31,20 +32,21 @@ bytes-most s h =
 pub sized : (s : List ℕ) → AllYes (headAsks s) → slotCount s ≤ 1024
 sized s h = let l = bytes-most s h in omega arith
 
--- the slots of a good chain are different, and below the slot count
-pub groups-differ : (s b : List ℕ) (from link : ℕ) → Chain s from b link → Good (groupAsks s) b → Different (slotCount s) b
+-- the sources on good chains are different, and below the slot count
+pub groups-differ : (s b : List ℕ) (from link : ℕ) → Chain s from b link → Good (λ (b : List ℕ). groupAsks s (groupsSoFar b)) b → Different (slotCount s) (sourcesOf (groupsSoFar b))
 unfolding groupAsks linkAsks
 groups-differ s [] from link c g = tt
 groups-differ s (k ∷ b) from link c g =
     let z = c .1 in
     (omega arith, ltb-true k (slotCount s) (g .0 .0), not-true (member k b) (g .0 .1 .0), groups-differ s b from k (c .2) (g .1))
 
-pub stores-differ : (s gs b : List ℕ) (from link : ℕ) → Different (slotCount s) gs → Chain s from b link → Good (storeAsks s gs) b → Different (slotCount s) (b ++ gs)
+pub stores-differ : (s : List ℕ) (a : Chains) (b : List ℕ) (from link : ℕ) → Different (slotCount s) (sourcesOf (groupsSoFar (a .groups))) → Chain s from b link
+    → Good (λ (b : List ℕ). storeAsks s (storesSoFar a b)) b → Different (slotCount s) (sourcesOf (storesSoFar a b))
 unfolding storeAsks linkAsks
-stores-differ s gs [] from link d c g = d
-stores-differ s gs (k ∷ b) from link d c g =
+stores-differ s a [] from link d c g = d
+stores-differ s a (k ∷ b) from link d c g =
     let z = c .1 in
-    (omega arith, ltb-true k (slotCount s) (g .0 .0), not-true (member k (b ++ gs)) (g .0 .1 .0), stores-differ s gs b from k d (c .2) (g .1))
+    (omega arith, ltb-true k (slotCount s) (g .0 .0), not-true (member k (sourcesOf (storesSoFar a b))) (g .0 .1 .0), stores-differ s a b from k d (c .2) (g .1))
 
 -- one link of a chain, and its end
 module _ (asks : List ℕ → ℕ → List Question) (end : List ℕ → Verdict) (s : List ℕ) where
@@ -60,50 +62,54 @@ module _ (asks : List ℕ → ℕ → List Question) (end : List ℕ → Verdict
   walked from short = walks asks s from (λ n b k. chain asks end n s b k) end turn stop short
 
 module _ (s : List ℕ) (h : AllYes (headAsks s)) where
-  group-walk : Walks (groupAsks s) s (headerOf (slotOf s 0) .groups) (chain (groupAsks s) (storesAfter s) 1024 s [] (headerOf (slotOf s 0) .groups)) (storesAfter s)
+  group-walk : Walks (λ (b : List ℕ). groupAsks s (groupsSoFar b)) s (headerOf (slotOf s 0) .groups) (groupWalk s) (λ b. storeWalk s (groupsSoFar b))
+  unfolding groupWalk
   group-walk =
-      walked (groupAsks s) (storesAfter s) s (headerOf (slotOf s 0) .groups)
+      walked (λ b. groupAsks s (groupsSoFar b)) (λ b. storeWalk s (groupsSoFar b)) s (headerOf (slotOf s 0) .groups)
       (λ b link w. different-short (slotCount s) b (sized s h) (groups-differ s b _ link (w .chain) (w .good)))
 
-  store-walk : (gs : List ℕ) → Groups s gs 0 → Walks (storeAsks s gs) s (headerOf (slotOf s 0) .stores) (storesAfter s gs) (λ ss. first (lastAsks s gs ss) (accepted gs ss))
-  unfolding storesAfter
-  store-walk gs v =
-      walked (storeAsks s gs) (λ ss. first (lastAsks s gs ss) (accepted gs ss)) s (headerOf (slotOf s 0) .stores)
+  store-walk : (c : Chains) → Groups s c 0 → Walks (λ (b : List ℕ). storeAsks s (storesSoFar c b)) s (headerOf (slotOf s 0) .stores) (storeWalk s c) (λ b. afterAll s (storesSoFar c b))
+  unfolding storeWalk
+  store-walk c v =
+      walked (λ b. storeAsks s (storesSoFar c b)) (λ b. afterAll s (storesSoFar c b)) s (headerOf (slotOf s 0) .stores)
       (λ b link w.
-      let d = different-short (slotCount s) (b ++ gs) (sized s h) (stores-differ s gs b _ link (groups-differ s gs _ 0 (v .chain) (v .good)) (w .chain) (w .good)) in
-      omega (arith, length-append b gs))
+      let d = different-short (slotCount s) (sourcesOf (storesSoFar c b)) (sized s h) (stores-differ s c b _ link (groups-differ s (c .groups) _ 0 (v .chain) (v .good)) (w .chain) (w .good)) in
+      omega (arith, length-append b (c .groups)))
 
-  headed : verdict s ≡ chain (groupAsks s) (storesAfter s) 1024 s [] (headerOf (slotOf s 0) .groups)
+  headed : verdict s ≡ groupWalk s
   unfolding verdict
-  headed = first-yes (headAsks s) (chain (groupAsks s) (storesAfter s) 1024 s [] (headerOf (slotOf s 0) .groups)) h
+  headed = first-yes (headAsks s) (groupWalk s) h
 
 -- the verdict means what the questions say
 pub says : (s : List ℕ) → Means s (verdict s)
 unfolding verdict
 says s =
-    first-both (Means s) (headAsks s) (chain (groupAsks s) (storesAfter s) 1024 s [] (headerOf (slotOf s 0) .groups)) (λ n k f. at-head f) (λ h.
-    group-walk s h .both (Means s) (λ b k w z n j f. at-group b k h w z f) (λ gs v.
-    store-walk s h gs v .both (Means s) (λ b k w z n j f. at-store gs b k h v w z f) (λ ss w.
-    first-both (Means s) (lastAsks s gs ss) (accepted gs ss) (λ n k f. at-last gs ss h v w f) (λ a.
+    first-both (Means s) (headAsks s) (groupWalk s) (λ n k f. at-head f) (λ h.
+    group-walk s h .both (Means s) (λ b k w z n j f. at-group (groupsSoFar b) k h w z f) (λ gs v.
+    store-walk s h (groupsSoFar gs) v .both (Means s) (λ b k w z n j f. at-store (storesSoFar (groupsSoFar gs) b) k h v w z f) (λ ss w.
+    let c = storesSoFar (groupsSoFar gs) ss in
+    first-both (Means s) (lastAsks s c) (accepted c) (λ n k f. at-last c h v w f) (λ a.
     record { head = h; groups = v; stores = w; last = a }))))
 
 -- and only this verdict does
 pub only : (s : List ℕ) (v : Verdict) → Means s v → verdict s ≡ v
-unfolding verdict
+unfolding verdict storeWalk
 only s (refused n k) (at-head f) = first-no (headAsks s) _ n k f
-only s (refused n k) (at-group b g h w z f) = headed s h ∙ group-walk s h .at-no b g w z n k f
-only s (refused n k) (at-store gs b j h v w z f) = headed s h ∙ group-walk s h .at-end gs v ∙ store-walk s h gs v .at-no b j w z n k f
-only s (refused n k) (at-last gs ss h v w f) =
-    headed s h ∙ group-walk s h .at-end gs v ∙ store-walk s h gs v .at-end ss w ∙ first-no (lastAsks s gs ss) (accepted gs ss) n k f
-only s (accepted gs ss) a =
-    headed s (a .head) ∙ group-walk s (a .head) .at-end gs (a .groups) ∙ store-walk s (a .head) gs (a .groups) .at-end ss (a .stores)
-    ∙ first-yes (lastAsks s gs ss) (accepted gs ss) (a .last)
+only s (refused n k) (at-group c j h v z f) = headed s h ∙ group-walk s h .at-no (c .groups) j v z n k f
+only s (refused n k) (at-store c j h v w z f) = headed s h ∙ group-walk s h .at-end (c .groups) v ∙ store-walk s h c v .at-no (c .stores) j w z n k f
+only s (refused n k) (at-last c h v w f) =
+    headed s h ∙ group-walk s h .at-end (c .groups) v ∙ store-walk s h c v .at-end (c .stores) w ∙ first-no (lastAsks s c) (accepted c) n k f
+only s (accepted c) a =
+    headed s (a .head) ∙ group-walk s (a .head) .at-end (c .groups) (a .groups) ∙ store-walk s (a .head) c (a .groups) .at-end (c .stores) (a .stores)
+    ∙ first-yes (lastAsks s c) (accepted c) (a .last)
 
 -- ACCEPTED EXACTLY WHEN every question is answered yes, and refused exactly by the first that is answered no
 pub exactly-when : (s : List ℕ) (v : Verdict) → (verdict s ≡ v) ↔ Means s v
 exactly-when s v = (λ e. subst (Means s) e (says s), only s v)
 
 -- the chains of an accepted file are its only ones
-pub one-way : (s gs ss hs rs : List ℕ) → Accepts s gs ss → Accepts s hs rs → (gs ≡ hs) × (ss ≡ rs)
-one-way s gs ss hs rs a b =
-    (one-chain s (headerOf (slotOf s 0) .groups) gs hs (a .groups .chain) (b .groups .chain), one-chain s (headerOf (slotOf s 0) .stores) ss rs (a .stores .chain) (b .stores .chain))
+pub one-way : (s : List ℕ) (c d : Chains) → Accepts s c → Accepts s d → c ≡ d
+one-way s c d a b =
+    let g = one-chain s (headerOf (slotOf s 0) .groups) (c .groups) (d .groups) (a .groups .chain) (b .groups .chain) in
+    let k = one-chain s (headerOf (slotOf s 0) .stores) (c .stores) (d .stores) (a .stores .chain) (b .stores .chain) in
+    λ i. record { groups = g i; stores = k i }

@@ -13,7 +13,7 @@ use Rattle.vehicles.specs.declared.group.Coefficients.{Coefficients}
 use Rattle.stores.specs.declared.records.Bulk.{Bulk}
 use Rattle.slots.specs.declared.store.Store.{Store}
 use Rattle.slots.specs.declared.store.Store.the-variants.{Handling, Standing, Aspiration}
-use Rattle.slot_file.specs.Sources.{VehicleGroup, groupsAt, storesAt, temperaturesAt}
+use Rattle.slot_file.specs.Sources.{VehicleGroup, Inventory}
 
 abbrev pub sameBool : Bool → Bool → Bool
 sameBool true b = b
@@ -91,8 +91,8 @@ abbrev pub alike : {A : Type 0} → (A → A → Bool) → List A → List A →
 alike same l m = all (λ z. eqb (count same z l) (count same z m)) (l ++ m)
 
 -- the letter's third demand: "alike in the twelve temperatures, month by month, in their vehicle groups, each with its own coefficients for the six pollutants, and in
--- their store records, repeats included", of the file s with the chains gs and ss and the file t with the chains hs and qs
-pub record AlikeFiles (s gs ss t hs qs : List ℕ) : Type 0 where
-  pub temperatures : temperaturesAt s ≡ temperaturesAt t
-  pub groups : alike sameGroup (groupsAt s gs) (groupsAt t hs) ≡ true
-  pub stores : alike sameStore (storesAt s ss) (storesAt t qs) ≡ true
+-- their store records, repeats included"
+pub record AlikeFiles (v w : Inventory) : Type 0 where
+  pub temperatures : v .temperatures ≡ w .temperatures
+  pub groups : alike sameGroup (v .groups) (w .groups) ≡ true
+  pub stores : alike sameStore (v .stores) (w .stores) ≡ true

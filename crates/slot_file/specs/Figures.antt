@@ -17,7 +17,7 @@ use Rattle.slots.specs.declared.store.Store.the-variants.{Handling, Standing, A
 use Rattle.slot_file.specs.declared.Answer.{Answer}
 use Rattle.slot_file.specs.Questions.{Verdict, accepted, refused}
 use Rattle.slot_file.specs.Walk.{verdict}
-use Rattle.slot_file.specs.Sources.{VehicleGroup, groupsAt, storesAt, temperaturesAt}
+use Rattle.slot_file.specs.Sources.{VehicleGroup, Inventory, inventoryAt}
 
 -- "Vehicle rules": what a group gives to the code of each of the six pollutants
 unfoldable pub groupContributions : List ℤ → VehicleGroup → List Contribution
@@ -35,8 +35,8 @@ gathered f [] = []
 gathered f (x ∷ xs) = f x ++ gathered f xs
 
 -- "what the rules above give ... from each source, equal sources each with a term of their own"
-unfoldable pub contributions : List ℤ → List VehicleGroup → List Store → List Contribution
-contributions ts gs rs = gathered (groupContributions ts) gs ++ gathered storeContributions rs
+unfoldable pub contributions : Inventory → List Contribution
+contributions v = gathered (groupContributions (v .temperatures)) (v .groups) ++ gathered storeContributions (v .stores)
 
 -- the exact sum of the code c
 unfoldable pub exactSum : (Contribution → Frac) → ℕ → List Contribution → Frac
@@ -55,14 +55,14 @@ abbrev pub codes : List ℕ
 codes = 152 ∷ 184 ∷ 301 ∷ 328 ∷ 330 ∷ 337 ∷ 2704 ∷ 2754 ∷ 2908 ∷ 2909 ∷ []
 
 -- the answer: a number and a slot, 0 and 0 of an accepted file; the figures by code, and how many groups and store records were summed
-unfoldable pub summed : List ℤ → List VehicleGroup → List Store → Answer
-summed ts gs rs = record {
+unfoldable pub summed : Inventory → Answer
+summed v = record {
   number = 0;
   slot = 0;
-  annual = map (annualFigure (contributions ts gs rs)) codes;
-  peak = map (peakFigure (contributions ts gs rs)) codes;
-  groups = length gs;
-  stores = length rs;
+  annual = map (annualFigure (contributions v)) codes;
+  peak = map (peakFigure (contributions v)) codes;
+  groups = length (v .groups);
+  stores = length (v .stores);
 }
 
 -- "A refusal gives its number and a slot, with every figure and count zero"
@@ -70,7 +70,7 @@ abbrev pub refusal : ℕ → ℕ → Answer
 refusal n k = record { number = n; slot = k; annual = map (λ (c : ℕ). 0) codes; peak = map (λ (c : ℕ). 0) codes; groups = 0; stores = 0 }
 
 unfoldable pub answered : List ℕ → Verdict → Answer
-answered s (accepted gs ss) = summed (temperaturesAt s) (groupsAt s gs) (storesAt s ss)
+answered s (accepted c) = summed (inventoryAt s c)
 answered s (refused n k) = refusal n k
 
 unfoldable pub answer : List ℕ → Answer

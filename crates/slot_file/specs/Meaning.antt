@@ -5,7 +5,8 @@ use mathlib.Core.Bool.{true, false}
 use mathlib.Core.List.{List, [], _∷_}
 use Rattle.slots.specs.Bytes.{slotOf}
 use Rattle.slots.specs.Layout.{nextOf, headerOf}
-use Rattle.slot_file.specs.Questions.{Question, headAsks, groupAsks, storeAsks, lastAsks, Verdict, accepted, refused}
+use Rattle.slot_file.specs.Sources.{Chains}
+use Rattle.slot_file.specs.Questions.{Question, headAsks, groupsSoFar, storesSoFar, groupAsks, storeAsks, lastAsks, Verdict, accepted, refused}
 
 -- every question is answered yes
 abbrev pub AllYes : List Question → Type 0
@@ -31,27 +32,27 @@ pub record Reached (asks : List ℕ → ℕ → List Question) (s : List ℕ) (f
   pub chain : Chain s from b link
   pub good : Good asks b
 
--- the groups, and after them the store records, up to a link
-abbrev pub Groups : List ℕ → List ℕ → ℕ → Type 0
-Groups s gs link = Reached (groupAsks s) s (headerOf (slotOf s 0) .groups) gs link
+-- the groups of c, and after them its store records, up to a link
+abbrev pub Groups : List ℕ → Chains → ℕ → Type 0
+Groups s c link = Reached (λ (b : List ℕ). groupAsks s (groupsSoFar b)) s (headerOf (slotOf s 0) .groups) (c .groups) link
 
-abbrev pub Stores : List ℕ → List ℕ → List ℕ → ℕ → Type 0
-Stores s gs ss link = Reached (storeAsks s gs) s (headerOf (slotOf s 0) .stores) ss link
+abbrev pub Stores : List ℕ → Chains → ℕ → Type 0
+Stores s c link = Reached (λ (b : List ℕ). storeAsks s (storesSoFar c b)) s (headerOf (slotOf s 0) .stores) (c .stores) link
 
 -- an accepted file: each chain from the header's link to a zero, and every question answered yes
-pub record Accepts (s gs ss : List ℕ) : Type 0 where
+pub record Accepts (s : List ℕ) (c : Chains) : Type 0 where
   pub head : AllYes (headAsks s)
-  pub groups : Groups s gs 0
-  pub stores : Stores s gs ss 0
-  pub last : AllYes (lastAsks s gs ss)
+  pub groups : Groups s c 0
+  pub stores : Stores s c 0
+  pub last : AllYes (lastAsks s c)
 
 -- a refused file: what was reached before, and the first question that is answered no
 pub data Refuses (s : List ℕ) (n k : ℕ) : Type 0 where
   at-head : FirstNo (headAsks s) n k → Refuses s n k
-  at-group : (b : List ℕ) (g : ℕ) → AllYes (headAsks s) → Groups s b g → (g ≡ 0 → ⊥) → FirstNo (groupAsks s b g) n k → Refuses s n k
-  at-store : (gs b : List ℕ) (j : ℕ) → AllYes (headAsks s) → Groups s gs 0 → Stores s gs b j → (j ≡ 0 → ⊥) → FirstNo (storeAsks s gs b j) n k → Refuses s n k
-  at-last : (gs ss : List ℕ) → AllYes (headAsks s) → Groups s gs 0 → Stores s gs ss 0 → FirstNo (lastAsks s gs ss) n k → Refuses s n k
+  at-group : (c : Chains) (j : ℕ) → AllYes (headAsks s) → Groups s c j → (j ≡ 0 → ⊥) → FirstNo (groupAsks s (groupsSoFar (c .groups)) j) n k → Refuses s n k
+  at-store : (c : Chains) (j : ℕ) → AllYes (headAsks s) → Groups s c 0 → Stores s c j → (j ≡ 0 → ⊥) → FirstNo (storeAsks s (storesSoFar c (c .stores)) j) n k → Refuses s n k
+  at-last : (c : Chains) → AllYes (headAsks s) → Groups s c 0 → Stores s c 0 → FirstNo (lastAsks s c) n k → Refuses s n k
 
 abbrev pub Means : List ℕ → Verdict → Type 0
-Means s (accepted gs ss) = Accepts s gs ss
+Means s (accepted c) = Accepts s c
 Means s (refused n k) = Refuses s n k

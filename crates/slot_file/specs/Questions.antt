@@ -9,7 +9,7 @@ use Rattle.vehicles.specs.Fields.{temperaturesInRange}
 use Rattle.vehicles.specs.Rules.{notZero}
 use Rattle.slots.specs.Bytes.{slotOf}
 use Rattle.slots.specs.Layout.{headerOf, groupRead, coefficientsRead, readStore, readNumber}
-use Rattle.slot_file.specs.Sources.{coefficientSlot, groupAt}
+use Rattle.slot_file.specs.Sources.{coefficientSlot, groupAt, Chains}
 
 pub record Question : Type 0 where
   pub answer : Bool
@@ -19,9 +19,9 @@ pub record Question : Type 0 where
 abbrev pub question : Bool → ℕ → ℕ → Question
 question t n k = record { answer = t; number = n; slot = k }
 
--- accepted, with the slots of the groups and of the store records on the chains, the last of each first; or refused, with a number and a slot
+-- accepted, with the chains; or refused, with a number and a slot
 pub data Verdict : Type 0 where
-  accepted : List ℕ → List ℕ → Verdict
+  accepted : Chains → Verdict
   refused : ℕ → ℕ → Verdict
 
 -- slots of the file
@@ -98,19 +98,32 @@ reachedBy s (g ∷ b) =
     coefficientSlot s g 5 ∷ coefficientSlot s g 4 ∷ coefficientSlot s g 3 ∷ coefficientSlot s g 2 ∷ coefficientSlot s g 1 ∷ coefficientSlot s g 0
     ∷ g ∷ reachedBy s b
 
--- all that is asked of a link g to a group, after the groups b, the last of them first
-unfoldable pub groupAsks : List ℕ → List ℕ → ℕ → List Question
-groupAsks s b g =
-    linkAsks s (lastOf b) b g (groupRead (slotOf s g) .number) ++ rowsAsks s g 6 ++ closingAsks s g
+-- the sources on the chains, and every slot that the chains reach
+abbrev pub sourcesOf : Chains → List ℕ
+sourcesOf c = c .stores ++ c .groups
 
--- all that is asked of a link k to a store record, after the groups gs and the store records b
-unfoldable pub storeAsks : List ℕ → List ℕ → List ℕ → ℕ → List Question
-storeAsks s gs b k = linkAsks s (lastOf b) (b ++ gs) k (readNumber (readStore (slotOf s k)))
+abbrev pub reachedOf : List ℕ → Chains → List ℕ
+reachedOf s c = c .stores ++ reachedBy s (c .groups)
+
+-- "The walk takes the group chain, then the store chain": the chains while the groups b are passed, and then, after the groups of c, the store records b
+abbrev pub groupsSoFar : List ℕ → Chains
+groupsSoFar b = record { groups = b; stores = [] }
+
+abbrev pub storesSoFar : Chains → List ℕ → Chains
+storesSoFar c b = record { groups = c .groups; stores = b }
+
+-- all that is asked of a link g to a group, and of a link k to a store record, by the chains so far
+unfoldable pub groupAsks : List ℕ → Chains → ℕ → List Question
+groupAsks s c g =
+    linkAsks s (lastOf (c .groups)) (sourcesOf c) g (groupRead (slotOf s g) .number) ++ rowsAsks s g 6 ++ closingAsks s g
+
+unfoldable pub storeAsks : List ℕ → Chains → ℕ → List Question
+storeAsks s c k = linkAsks s (lastOf (c .stores)) (sourcesOf c) k (readNumber (readStore (slotOf s k)))
 
 -- "Is each slot from 1 up reached?": n slots from i up, so that the first that is not is "the lowest unreached"
 unfoldable pub reachAsks : ℕ → ℕ → List ℕ → List Question
 reachAsks zero i reached = []
 reachAsks (suc n) i reached = question (member i reached) 12 i ∷ reachAsks n (i + 1) reached
 
-unfoldable pub lastAsks : List ℕ → List ℕ → List ℕ → List Question
-lastAsks s gs ss = reachAsks (slotCount s - 1) 1 (ss ++ reachedBy s gs)
+unfoldable pub lastAsks : List ℕ → Chains → List Question
+lastAsks s c = reachAsks (slotCount s - 1) 1 (reachedOf s c)

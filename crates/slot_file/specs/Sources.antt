@@ -30,12 +30,23 @@ groupAt s g = record {
 unfoldable pub storeAt : List ℕ → ℕ → Store
 storeAt s k = storeOf (slotOf s k)
 
--- in the order of the chains, which a verdict has the last first
-unfoldable pub groupsAt : List ℕ → List ℕ → List VehicleGroup
-groupsAt s gs = map (groupAt s) (reverse gs)
-
-unfoldable pub storesAt : List ℕ → List ℕ → List Store
-storesAt s ss = map (storeAt s) (reverse ss)
-
 unfoldable pub temperaturesAt : List ℕ → List ℤ
 temperaturesAt s = headerOf (slotOf s 0) .temperatures
+
+-- the slots of the groups and of the store records on the chains, the last of each first
+pub record Chains : Type 0 where
+  pub groups : List ℕ
+  pub stores : List ℕ
+
+-- what a file says: the temperatures, and the sources in the order of the chains
+pub record Inventory : Type 0 where
+  pub temperatures : List ℤ
+  pub groups : List VehicleGroup
+  pub stores : List Store
+
+unfoldable pub inventoryAt : List ℕ → Chains → Inventory
+inventoryAt s c = record {
+  temperatures = temperaturesAt s;
+  groups = map (groupAt s) (reverse (c .groups));
+  stores = map (storeAt s) (reverse (c .stores));
+}

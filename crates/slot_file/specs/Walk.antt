@@ -6,7 +6,8 @@ use Rattle.sums.specs.Choice.{if_then_else}
 use Rattle.sums.specs.declared.answer.Verdict as answer
 use Rattle.slots.specs.Bytes.{slotOf}
 use Rattle.slots.specs.Layout.{nextOf, headerOf}
-use Rattle.slot_file.specs.Questions.{Question, Verdict, accepted, refused, headAsks, groupAsks, storeAsks, lastAsks}
+use Rattle.slot_file.specs.Sources.{Chains}
+use Rattle.slot_file.specs.Questions.{Question, Verdict, accepted, refused, headAsks, groupsSoFar, storesSoFar, groupAsks, storeAsks, lastAsks}
 
 -- the refusal of the first question that is answered no, and else v
 unfoldable pub first : List Question → Verdict → Verdict
@@ -19,14 +20,21 @@ unfoldable pub chain : (List ℕ → ℕ → List Question) → (List ℕ → Ve
 chain asks end zero s b k = refused 7 k
 chain asks end (suc n) s b k = if_then_else (eqb k 0) (end b) (first (asks b k) (chain asks end n s (k ∷ b) (nextOf (slotOf s k))))
 
--- after the groups gs, the store chain, and at its end question 12
-unfoldable pub storesAfter : List ℕ → List ℕ → Verdict
-storesAfter s gs = chain (storeAsks s gs) (λ (ss : List ℕ). first (lastAsks s gs ss) (accepted gs ss)) 1024 s [] (headerOf (slotOf s 0) .stores)
+-- at the end of the chains, question 12
+abbrev pub afterAll : List ℕ → Chains → Verdict
+afterAll s c = first (lastAsks s c) (accepted c)
+
+-- the store chain, after the groups of c
+unfoldable pub storeWalk : List ℕ → Chains → Verdict
+storeWalk s c = chain (λ (b : List ℕ). storeAsks s (storesSoFar c b)) (λ (b : List ℕ). afterAll s (storesSoFar c b)) 1024 s [] (headerOf (slotOf s 0) .stores)
+
+unfoldable pub groupWalk : List ℕ → Verdict
+groupWalk s = chain (λ (b : List ℕ). groupAsks s (groupsSoFar b)) (λ (b : List ℕ). storeWalk s (groupsSoFar b)) 1024 s [] (headerOf (slotOf s 0) .groups)
 
 unfoldable pub verdict : List ℕ → Verdict
-verdict s = first (headAsks s) (chain (groupAsks s) (storesAfter s) 1024 s [] (headerOf (slotOf s 0) .groups))
+verdict s = first (headAsks s) (groupWalk s)
 
 -- what a check answers: "either accepted or refused by number and slot"; 0 and 0 of an accepted file
 abbrev pub told : Verdict → answer.Verdict
-told (accepted gs ss) = record { number = 0; slot = 0 }
+told (accepted c) = record { number = 0; slot = 0 }
 told (refused n k) = record { number = n; slot = k }

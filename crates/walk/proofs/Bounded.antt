@@ -7,7 +7,7 @@ use mathlib.Core.Path.{_≡_}
 use mathlib.Core.Bool.{true}
 use mathlib.Core.List.{List, [], _∷_}
 use lib.Dec.{eqb}
-use lib.ListN.{getD, length}
+use lib.ListN.{getD, length, length-append}
 use Rattle.sums.specs.Choice.{listTo}
 use Rattle.sums.specs.Fraction.{Frac, partsOf}
 use Rattle.sums.specs.Answer.{Contribution}
@@ -20,9 +20,9 @@ use Rattle.vehicles.specs.Rules.{contributionOf}
 use Rattle.vehicles.proofs.Bounds.{group-bounded}
 use Rattle.slots.specs.declared.store.Store.{Store}
 use Rattle.slots.specs.declared.store.Store.the-variants.{Handling, Standing, Aspiration}
-use Rattle.slot_file.specs.Sources.{groupAt, storeAt, temperaturesAt}
-use Rattle.slot_file.specs.Questions.{groupAsks, storeAsks}
-use Rattle.slot_file.specs.Meaning.{Good}
+use Rattle.slot_file.specs.Sources.{groupAt, storeAt, temperaturesAt, Chains}
+use Rattle.slot_file.specs.Questions.{sourcesOf, groupsSoFar, storesSoFar, groupAsks, storeAsks}
+use Rattle.slot_file.specs.Meaning.{Good, Groups, Stores}
 use Rattle.slot_file.specs.Figures.{groupContributions, storeContributions}
 use Rattle.slot_file.specs.Alike.{total}
 use Rattle.slot_file.specs.Parts.{partsTo}
@@ -41,7 +41,7 @@ module _ (f : Contribution → Frac) (k most : ℕ) (bound : (x : Contribution) 
   unfolding partsTo
   one-most x b = both (λ (n : ℕ). n ≤ most) (eqb (x .code) c) (bound x b) (omega arith)
 
-  groups-most : (s gs : List ℕ) → Good (groupAsks s) gs
+  groups-most : (s gs : List ℕ) → Good (λ (b : List ℕ). groupAsks s (groupsSoFar b)) gs
       → total (λ (g : ℕ). total (partsTo f k c) (groupContributions (temperaturesAt s) (groupAt s g))) gs ≤ length gs * (6 * most)
   unfolding groupContributions
   groups-most s [] h = omega arith
@@ -52,7 +52,7 @@ module _ (f : Contribution → Frac) (k most : ℕ) (bound : (x : Contribution) 
         groups-most s gs (h .1),
         total-listTo (partsTo f k c) most 6 x
             (λ (p : ℕ) (l : p < 6). one-most (x p) (group-bounded (groupAt s g .group) (temperaturesAt s) (getD (groupAt s g .coefficients) p noCoefficients)
-            (group-in-range s gs g (h .0)) (row-in-range s gs g (h .0) p l) p)),
+            (group-in-range s (groupsSoFar gs) g (h .0)) (row-in-range s (groupsSoFar gs) g (h .0) p l) p)),
       )
 
   store-most : (r : Store) → storeInRange r ≡ true → total (partsTo f k c) (storeContributions r) ≤ most
@@ -61,11 +61,11 @@ module _ (f : Contribution → Frac) (k most : ℕ) (bound : (x : Contribution) 
   store-most (Standing r) e = omega (arith, one-most (standingContribution r) (standing-bounded r e))
   store-most (Aspiration r) e = omega (arith, one-most (aspirationContribution r) (aspiration-bounded r e))
 
-  stores-most : (s gs ss : List ℕ) → Good (storeAsks s gs) ss → total (λ (k′ : ℕ). total (partsTo f k c) (storeContributions (storeAt s k′))) ss ≤ length ss * most
-  stores-most s gs [] h = omega arith
-  stores-most s gs (j ∷ ss) h = omega (arith, stores-most s gs ss (h .1), store-most (storeAt s j) (store-answered s gs ss j (h .0) .1))
+  stores-most : (s : List ℕ) (a : Chains) (ss : List ℕ) → Good (λ (b : List ℕ). storeAsks s (storesSoFar a b)) ss → total (λ (k′ : ℕ). total (partsTo f k c) (storeContributions (storeAt s k′))) ss ≤ length ss * most
+  stores-most s a [] h = omega arith
+  stores-most s a (j ∷ ss) h = omega (arith, stores-most s a ss (h .1), store-most (storeAt s j) (store-answered s (storesSoFar a ss) j (h .0) .1))
 
-  pub file-most : (s gs ss : List ℕ) → Good (groupAsks s) gs → Good (storeAsks s gs) ss → length ss + length gs < 1024 → unitsOf (partsTo f k c) s gs ss ≤ 1023 * (6 * most)
-  file-most s gs ss h j l =
-      let few : length gs + length ss ≤ 1023 = omega (arith, l) in
-      omega (arith, groups-most s gs h, stores-most s gs ss j, mul-le-mul few (le-refl most))
+  pub file-most : (s : List ℕ) (a : Chains) → Groups s a 0 → Stores s a 0 → length (sourcesOf a) < 1024 → unitsOf (partsTo f k c) s a ≤ 1023 * (6 * most)
+  file-most s a v w l =
+      let few : length (a .groups) + length (a .stores) ≤ 1023 = omega (arith, l, length-append (a .stores) (a .groups)) in
+      omega (arith, groups-most s (a .groups) (v .good), stores-most s a (a .stores) (w .good), mul-le-mul few (le-refl most))

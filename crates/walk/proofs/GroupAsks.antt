@@ -12,16 +12,16 @@ use Rattle.vehicles.specs.declared.group.Coefficients.{Coefficients}
 use Rattle.slots.specs.Bytes.{slotOf}
 use Rattle.slots.specs.Layout.{groupRead}
 use Rattle.slots.specs.declared.group.GroupRead.{GroupRead}
-use Rattle.slot_file.specs.Sources.{groupAt}
-use Rattle.slot_file.specs.Questions.{Question, question, lastOf, linkAsks, rowsAsks, closingAsks, groupAsks, afterSixth}
+use Rattle.slot_file.specs.Sources.{groupAt, Chains}
+use Rattle.slot_file.specs.Questions.{Question, question, lastOf, linkAsks, sourcesOf, rowsAsks, closingAsks, groupAsks, afterSixth}
 use Rattle.slot_file.specs.Meaning.{AllYes}
 use Rattle.slot_file.specs.Parts.{marksOf}
 use Rattle.walk.specs.Told.{Told, LinkTold, SootTold}
 use Rattle.walk.proofs.Telling.{told-before, told-after}
 
-module _ (s b : List ℕ) (g : ℕ) where
+module _ (s : List ℕ) (c : Chains) (g : ℕ) where
   abbrev pub link : List Question
-  link = linkAsks s (lastOf b) b g (groupRead (slotOf s g) .number)
+  link = linkAsks s (lastOf (c .groups)) (sourcesOf c) g (groupRead (slotOf s g) .number)
 
   abbrev pub rows : List Question
   rows = rowsAsks s g 6 ++ afterSixth s g ∷ []
@@ -29,16 +29,16 @@ module _ (s b : List ℕ) (g : ℕ) where
   abbrev pub eleven : List Question
   eleven = question (not (notZero (groupAt s g .group) (groupAt s g .coefficients))) 11 g ∷ []
 
-  asks-are : link ++ (rows ++ eleven) ≡ groupAsks s b g
+  asks-are : link ++ (rows ++ eleven) ≡ groupAsks s c g
   unfolding groupAsks closingAsks
   asks-are = ap (λ (l : List Question). link ++ l) (append-assoc (rowsAsks s g 6) (afterSixth s g ∷ []) eleven) ∙ sym (append-assoc link (rowsAsks s g 6) (afterSixth s g ∷ eleven))
 
   module _ {v : Verdict} where
     pub link-told : {sources : List Bool} (holder : ℕ) (read : GroupRead) → LinkTold s sources holder g (read .number) v → read ≡ groupRead (slotOf s g) → (g ≡ 0 → ⊥)
-        → sources ≡ marksOf b → holder ≡ lastOf b → Told link v
-    link-told holder read t e z m h = rw (← h, ← e) (t .told b m z)
+        → sources ≡ marksOf (sourcesOf c) → holder ≡ lastOf (c .groups) → Told link v
+    link-told holder read t e z m h = rw (← h, ← e) (t .told (sourcesOf c) m z)
 
-    pub link-refused : Told link v → (v .number ≡ 0 → ⊥) → Told (groupAsks s b g) v
+    pub link-refused : Told link v → (v .number ≡ 0 → ⊥) → Told (groupAsks s c g) v
     link-refused t z = subst (λ (l : List Question). Told l v) asks-are (told-before link (rows ++ eleven) t z)
 
   -- what was told of the coefficient links, and then of question 11
@@ -46,7 +46,7 @@ module _ (s b : List ℕ) (g : ℕ) where
     pub told-before-eleven : v .number ≡ 0 → before .number ≡ 0
     told-before-eleven y = elim (decLt 0 (before .number)) [ yes l ↦ sym (ap (λ (x : Verdict). x .number) (t .kept (λ z. omega arith))) ∙ y | no l ↦ omega arith ]
 
-    pub eleven-told : AllYes link → Told rows before → h ≡ groupAt s g .group → (before .number ≡ 0 → ks ≡ groupAt s g .coefficients) → Told (groupAsks s b g) v
+    pub eleven-told : AllYes link → Told rows before → h ≡ groupAt s g .group → (before .number ≡ 0 → ks ≡ groupAt s g .coefficients) → Told (groupAsks s c g) v
     eleven-told a r e f =
         subst (λ (l : List Question). Told l v) asks-are (told-after link (rows ++ eleven) a (elim (decLt 0 (before .number)) [
           | yes l ↦ (let z : before .number ≡ 0 → ⊥ = λ z. omega arith in subst (Told (rows ++ eleven)) (sym (t .kept z)) (told-before rows eleven r z))

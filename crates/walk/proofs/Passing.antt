@@ -19,8 +19,8 @@ use Rattle.slots.specs.Layout.{readStore}
 use Rattle.slots.specs.declared.store.Store.{Store}
 use Rattle.slots.specs.declared.store.Store.the-variants.{Handling, Standing, Aspiration}
 use Rattle.slots.specs.declared.store.StoreRead.{StoreRead}
-use Rattle.slot_file.specs.Sources.{groupAt, storeAt, temperaturesAt}
-use Rattle.slot_file.specs.Questions.{slotCount, headAsks, reachedBy, storeAsks}
+use Rattle.slot_file.specs.Sources.{groupAt, storeAt, temperaturesAt, Chains}
+use Rattle.slot_file.specs.Questions.{slotCount, headAsks, reachedBy, sourcesOf, groupsSoFar, storesSoFar, storeAsks}
 use Rattle.slot_file.specs.Meaning.{AllYes, Groups, Stores}
 use Rattle.slot_file.specs.Figures.{groupContributions, storeContributions}
 use Rattle.slot_file.specs.Alike.{total}
@@ -32,13 +32,13 @@ use Rattle.totals.proofs.Forty.{plus-held, plus-to-held}
 use Rattle.totals.proofs.Sums.{same-totals, plus-emitted, plus-six}
 use Rattle.walk.specs.Rows.{marksTo}
 use Rattle.walk.specs.Steps.{GroupStepped, StoreStepped}
-use Rattle.walk.specs.Walked.{unitsOf, sumsOf, plusGroup, GroupsPassed, GroupsEnded, recordEmission, storeEmission, plusStore, StoresPassed, StoresEnded}
+use Rattle.walk.specs.Walked.{unitsOf, sumsOf, Holds, plusGroup, GroupsPassed, GroupsEnded, recordEmission, storeEmission, plusStore, StoresPassed, StoresEnded}
 use Rattle.walk.specs.declared.groups.GroupStep.{GroupStep}
 use Rattle.walk.specs.declared.records.StoreStep.{StoreStep}
 use Rattle.walk.proofs.Ranged.{group-answered, storeInRange, store-answered}
 
 -- nothing is summed yet
-pub no-sums : (s : List ℕ) → totalsIn noNumbers ≡ sumsOf s [] []
+pub no-sums : (s : List ℕ) → totalsIn noNumbers ≡ sumsOf s (groupsSoFar [])
 unfolding listTo totalsIn mixedOf
 no-sums s = refl
 
@@ -55,22 +55,22 @@ store-room false l r h = h
 
 module _ (s : List ℕ) where
   group-summed : (gs : List ℕ) (g : ℕ)
-      → plusTo (sumsOf s gs []) (emissionsOf (groupAt s g .group) (temperaturesAt s) (groupAt s g .coefficients)) 6 ≡ sumsOf s (g ∷ gs) []
+      → plusTo (sumsOf s (groupsSoFar gs)) (emissionsOf (groupAt s g .group) (temperaturesAt s) (groupAt s g .coefficients)) 6 ≡ sumsOf s (groupsSoFar (g ∷ gs))
   unfolding emissionsOf emissionOf groupContributions
   group-summed gs g =
       let x : ℕ → Contribution = λ (p : ℕ). contributionOf (groupAt s g .group) (temperaturesAt s) (getD (groupAt s g .coefficients) p noCoefficients) p in
-      let a : ℕ → ℕ = λ (c : ℕ). unitsOf (annualTo c) s gs [] in
-      let p : ℕ → ℕ = λ (c : ℕ). unitsOf (peakTo c) s gs [] in
+      let a : ℕ → ℕ = λ (c : ℕ). unitsOf (annualTo c) s (groupsSoFar gs) in
+      let p : ℕ → ℕ = λ (c : ℕ). unitsOf (peakTo c) s (groupsSoFar gs) in
       plus-six a p x
-      ∙ same-totals (λ (c : ℕ). a c + total (annualTo c) (listTo 6 x)) (λ (c : ℕ). unitsOf (annualTo c) s (g ∷ gs) [])
-      (λ (c : ℕ). p c + total (peakTo c) (listTo 6 x)) (λ (c : ℕ). unitsOf (peakTo c) s (g ∷ gs) []) (λ c. omega arith) (λ c. omega arith)
+      ∙ same-totals (λ (c : ℕ). a c + total (annualTo c) (listTo 6 x)) (λ (c : ℕ). unitsOf (annualTo c) s (groupsSoFar (g ∷ gs)))
+      (λ (c : ℕ). p c + total (peakTo c) (listTo 6 x)) (λ (c : ℕ). unitsOf (peakTo c) s (groupsSoFar (g ∷ gs))) (λ c. omega arith) (λ c. omega arith)
 
   group-marked : (gs : List ℕ) (g : ℕ) → marksTo s g (set (marksOf (reachedBy s gs)) g true) 6 ≡ marksOf (reachedBy s (g ∷ gs))
   unfolding marksTo reachedBy
   group-marked gs g = refl
 
   module _ (h : AllYes (headAsks s)) where
-    pub groups-short : {gs : List ℕ} {link : ℕ} → Groups s gs link → length gs < 1024
+    pub groups-short : {gs : List ℕ} {link : ℕ} → Groups s (groupsSoFar gs) link → length gs < 1024
     groups-short {gs} {link} w = different-short (slotCount s) gs (sized s h) (groups-differ s gs _ link (w .chain) (w .good))
 
     pub groups-ended : {summing : Bool} {sources reached : List Bool} {totals : List ℕ} {holder link count : ℕ}
@@ -86,21 +86,25 @@ module _ (s : List ℕ) where
     unfolding plusGroup if_then_else
     group-passed {summing} {totals = totals} {link = g} {r = r} p z t y d =
         let q = t .passed y in
-        let a = t .told (p .gs) (p .sources-are) (p .holder-is) .all y in
+        let h′ = p .holds in
+        let a = t .told (groupsSoFar (p .gs)) (h′ .sources-are) (p .holder-is) .all y in
         record {
           gs = g ∷ p .gs;
           chain = record { chain = (q .next, z, p .chain .chain); good = (a, p .chain .good) };
           holder-is = refl;
-          count-is = omega (arith, p .count-is);
-          sources-are = q .source-marked ∙ ap (λ (l : List Bool). set l g true) (p .sources-are);
-          reached-are = q .slots-marked ∙ ap (λ (l : List Bool). marksTo s g (set l g true) 6) (p .reached-are) ∙ group-marked (p .gs) g;
-          room = ap length d ∙ group-room summing totals (groupAnswer (r .group) (temperaturesAt s) (r .coefficients)) (p .room);
-          sums-are = λ e.
-              ap totalsIn d ∙ simp e
-              (plus-to-held totals (groupAnswer (r .group) (temperaturesAt s) (r .coefficients) .emissions) (p .room) 6 .1
-              ∙ (λ i. plusTo (p .sums-are e i) (groupAnswer (q .group i) (temperaturesAt s) (q .coefficients i) .emissions) 6)
-              ∙ ap (λ l. plusTo (sumsOf s (p .gs) []) l 6) (group-answered s (p .gs) g a h)
-              ∙ group-summed (p .gs) g);
+          holds = record {
+            groups-are = omega (arith, h′ .groups-are);
+            stores-are = refl;
+            sources-are = q .source-marked ∙ ap (λ (l : List Bool). set l g true) (h′ .sources-are);
+            reached-are = q .slots-marked ∙ ap (λ (l : List Bool). marksTo s g (set l g true) 6) (h′ .reached-are) ∙ group-marked (p .gs) g;
+            room = ap length d ∙ group-room summing totals (groupAnswer (r .group) (temperaturesAt s) (r .coefficients)) (h′ .room);
+            sums-are = λ e.
+                ap totalsIn d ∙ simp e
+                (plus-to-held totals (groupAnswer (r .group) (temperaturesAt s) (r .coefficients) .emissions) (h′ .room) 6 .1
+                ∙ (λ i. plusTo (h′ .sums-are e i) (groupAnswer (q .group i) (temperaturesAt s) (q .coefficients i) .emissions) 6)
+                ∙ ap (λ l. plusTo (sumsOf s (groupsSoFar (p .gs))) l 6) (group-answered s (groupsSoFar (p .gs)) g a h)
+                ∙ group-summed (p .gs) g);
+          };
         }
 
 -- one contribution more
@@ -118,26 +122,28 @@ record-summed a p (Handling h) e = ap (plusEmission (totalsOf a p)) (handling-em
 record-summed a p (Standing r) e = ap (plusEmission (totalsOf a p)) (standing-emitted r e) ∙ one-summed a p (standingContribution r)
 record-summed a p (Aspiration r) e = ap (plusEmission (totalsOf a p)) (aspiration-emitted r e) ∙ one-summed a p (aspirationContribution r)
 
-module _ (s gs : List ℕ) where
-  store-summed : (ss : List ℕ) (k : ℕ) → AllYes (storeAsks s gs ss k) → plusEmission (sumsOf s gs ss) (storeEmission (readStore (slotOf s k))) ≡ sumsOf s gs (k ∷ ss)
+module _ (s : List ℕ) (a : Chains) (ss : List ℕ) where
+  store-summed : (k : ℕ) → AllYes (storeAsks s (storesSoFar a ss) k)
+      → plusEmission (sumsOf s (storesSoFar a ss)) (storeEmission (readStore (slotOf s k))) ≡ sumsOf s (storesSoFar a (k ∷ ss))
   unfolding storeEmission
-  store-summed ss k a =
-      let e = store-answered s gs ss k a in
-      let u : ℕ → ℕ = λ (c : ℕ). unitsOf (annualTo c) s gs ss in
-      let v : ℕ → ℕ = λ (c : ℕ). unitsOf (peakTo c) s gs ss in
-      ap (λ (r : StoreRead). plusEmission (sumsOf s gs ss) (storeEmission r)) (e .0)
+  store-summed k y =
+      let b = storesSoFar a ss in
+      let e = store-answered s b k y in
+      let d = storesSoFar a (k ∷ ss) in
+      let u : ℕ → ℕ = λ (c : ℕ). unitsOf (annualTo c) s b in
+      let v : ℕ → ℕ = λ (c : ℕ). unitsOf (peakTo c) s b in
+      ap (λ (r : StoreRead). plusEmission (sumsOf s b) (storeEmission r)) (e .0)
       ∙ record-summed u v (storeAt s k) (e .1)
-      ∙ same-totals (λ (c : ℕ). u c + total (annualTo c) (storeContributions (storeAt s k))) (λ (c : ℕ). unitsOf (annualTo c) s gs (k ∷ ss))
-      (λ (c : ℕ). v c + total (peakTo c) (storeContributions (storeAt s k))) (λ (c : ℕ). unitsOf (peakTo c) s gs (k ∷ ss)) (λ c. omega arith) (λ c. omega arith)
+      ∙ same-totals (λ (c : ℕ). u c + total (annualTo c) (storeContributions (storeAt s k))) (λ (c : ℕ). unitsOf (annualTo c) s d)
+      (λ (c : ℕ). v c + total (peakTo c) (storeContributions (storeAt s k))) (λ (c : ℕ). unitsOf (peakTo c) s d) (λ c. omega arith) (λ c. omega arith)
 
 module _ (s : List ℕ) (h : AllYes (headAsks s)) where
-  pub stores-short : {gs ss : List ℕ} {link : ℕ} → Groups s gs 0 → Stores s gs ss link → length ss + length gs < 1024
-  stores-short {gs} {ss} {link} v w =
-      omega (
-        arith,
-        length-append ss gs,
-        different-short (slotCount s) (ss ++ gs) (sized s h) (stores-differ s gs ss _ link (groups-differ s gs _ 0 (v .chain) (v .good)) (w .chain) (w .good)),
-      )
+  pub sources-short : (c : Chains) {link : ℕ} → Groups s c 0 → Stores s c link → length (sourcesOf (storesSoFar c (c .stores))) < 1024
+  sources-short c {link} v w =
+      different-short (slotCount s) (sourcesOf (storesSoFar c (c .stores))) (sized s h) (stores-differ s c (c .stores) _ link (groups-differ s (c .groups) _ 0 (v .chain) (v .good)) (w .chain) (w .good))
+
+  pub stores-short : (c : Chains) {link : ℕ} → Groups s c 0 → Stores s c link → length (c .stores) < 1024
+  stores-short c v w = omega (arith, length-append (c .stores) (c .groups), sources-short c v w)
 
   pub stores-ended : {summing : Bool} {sources reached : List Bool} {totals : List ℕ} {holder link groups stores : ℕ} {v : Verdict}
       → StoresPassed s summing sources reached totals holder link groups stores → link ≡ 0
@@ -153,21 +159,23 @@ module _ (s : List ℕ) (h : AllYes (headAsks s)) where
   unfolding plusStore if_then_else
   store-passed {summing} {totals = totals} {link = k} {r = r} p z t y d =
       let q = t .passed y in
-      let a = t .told (p .gs) (p .ss) (p .sources-are) (p .holder-is) .all y in
+      let h′ = p .holds in
+      let a = t .told (storesSoFar (p .c) (p .c .stores)) (h′ .sources-are) (p .holder-is) .all y in
       record {
-        gs = p .gs;
-        ss = k ∷ p .ss;
+        c = storesSoFar (p .c) (k ∷ p .c .stores);
         group-chain = p .group-chain;
         chain = record { chain = (q .next, z, p .chain .chain); good = (a, p .chain .good) };
         holder-is = refl;
-        groups-are = p .groups-are;
-        stores-are = omega (arith, p .stores-are);
-        sources-are = q .source-marked ∙ ap (λ (l : List Bool). set l k true) (p .sources-are);
-        reached-are = q .slot-marked ∙ ap (λ (l : List Bool). set l k true) (p .reached-are);
-        room = ap length d ∙ store-room summing totals (r .read) (p .room);
-        sums-are = λ e.
-            ap totalsIn d ∙ simp e
-            (plus-held totals (storeEmission (r .read)) (p .room) .1
-            ∙ (λ i. plusEmission (p .sums-are e i) (storeEmission (t .read i)))
-            ∙ store-summed s (p .gs) (p .ss) k a);
+        holds = record {
+          groups-are = h′ .groups-are;
+          stores-are = omega (arith, h′ .stores-are);
+          sources-are = q .source-marked ∙ ap (λ (l : List Bool). set l k true) (h′ .sources-are);
+          reached-are = q .slot-marked ∙ ap (λ (l : List Bool). set l k true) (h′ .reached-are);
+          room = ap length d ∙ store-room summing totals (r .read) (h′ .room);
+          sums-are = λ e.
+              ap totalsIn d ∙ simp e
+              (plus-held totals (storeEmission (r .read)) (h′ .room) .1
+              ∙ (λ i. plusEmission (h′ .sums-are e i) (storeEmission (t .read i)))
+              ∙ store-summed s (p .c) (p .c .stores) k a);
+        };
       }

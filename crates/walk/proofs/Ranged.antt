@@ -18,7 +18,7 @@ use Rattle.slots.specs.declared.store.Store.{Store}
 use Rattle.slots.specs.declared.store.Store.the-variants.{Handling, Standing, Aspiration}
 use Rattle.slots.specs.declared.store.StoreRead.the-variants.{Record}
 use Rattle.slots.proofs.Cases.{with-number, read-record}
-use Rattle.slot_file.specs.Sources.{coefficientSlot, groupAt, storeAt, temperaturesAt}
+use Rattle.slot_file.specs.Sources.{coefficientSlot, groupAt, storeAt, temperaturesAt, Chains}
 use Rattle.slot_file.specs.Questions.{headAsks, linkAsks, coefficientAsks, rowsAsks, closingAsks, groupAsks, storeAsks}
 use Rattle.slot_file.specs.Meaning.{AllYes}
 use Rattle.walk.proofs.Telling.{all-left, all-right}
@@ -31,7 +31,7 @@ passed-read true true p q = (refl, refl)
 passed-read true false p q = absurd (subst T (sym q) tt)
 passed-read false good p q = absurd (subst T (sym p) tt)
 
-module _ (s b : List ℕ) (g : ℕ) (a : AllYes (groupAsks s b g)) where
+module _ (s : List ℕ) (c : Chains) (g : ℕ) (a : AllYes (groupAsks s c g)) where
   pub group-in-range : groupInRange (groupAt s g .group) ≡ true
   unfolding groupAsks linkAsks groupAt groupRead groupGood
   group-in-range =
@@ -81,9 +81,9 @@ good-store t = go (eqb (byteAt t 2) 3) (eqb (byteAt t 2) 4)
     go false false e = nth (aspirationInRange (aspirationOf t) ∷ zeroFrom t 6 2 ∷ zeroFrom t 20 44 ∷ []) e 0
 
 -- its rule answers what it gives
-pub store-answered : (s gs b : List ℕ) (k : ℕ) → AllYes (storeAsks s gs b k) → (readStore (slotOf s k) ≡ Record (storeAt s k)) × (storeInRange (storeAt s k) ≡ true)
+pub store-answered : (s : List ℕ) (c : Chains) (k : ℕ) → AllYes (storeAsks s c k) → (readStore (slotOf s k) ≡ Record (storeAt s k)) × (storeInRange (storeAt s k) ≡ true)
 unfolding storeAsks linkAsks storeAt
-store-answered s gs b k a =
+store-answered s c k a =
     let t = slotOf s k in
     let n = with-number t (readStore t) refl .1 in
     let p = passed-read (storeKind t) (storeGood t) (rw n at (a .1 .1 .0)) (rw n at (a .1 .1 .1 .0)) in

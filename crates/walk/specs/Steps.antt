@@ -2,12 +2,12 @@
 use Prim.Native.Nat.{ℕ}
 use mathlib.Core.Path.{_≡_}
 use mathlib.Core.Bool.{Bool, true}
-use mathlib.Core.List.{List, _++_}
+use mathlib.Core.List.{List}
 use lib.ListN.{set}
 use Rattle.slots.specs.Bytes.{slotOf}
 use Rattle.slots.specs.Layout.{nextOf, readStore}
-use Rattle.slot_file.specs.Sources.{groupAt}
-use Rattle.slot_file.specs.Questions.{lastOf, groupAsks, storeAsks}
+use Rattle.slot_file.specs.Sources.{groupAt, Chains}
+use Rattle.slot_file.specs.Questions.{lastOf, sourcesOf, groupAsks, storeAsks}
 use Rattle.slot_file.specs.Parts.{marksOf}
 use Rattle.walk.specs.Told.{Told}
 use Rattle.walk.specs.Rows.{marksTo}
@@ -23,7 +23,7 @@ pub record GroupPassed (s : List ℕ) (g : ℕ) (sources sources′ reached reac
   pub slots-marked : reached′ ≡ marksTo s g (set reached g true) 6
 
 pub record GroupStepped (s : List ℕ) (holder g : ℕ) (sources sources′ reached reached′ : List Bool) (r : GroupStep) : Type 0 where
-  pub told : (b : List ℕ) → sources ≡ marksOf b → holder ≡ lastOf b → Told (groupAsks s b g) (r .verdict)
+  pub told : (c : Chains) → sources ≡ marksOf (sourcesOf c) → holder ≡ lastOf (c .groups) → Told (groupAsks s c g) (r .verdict)
   pub passed : r .verdict .number ≡ 0 → GroupPassed s g sources sources′ reached reached′ r
 
 pub record StorePassed (s : List ℕ) (k : ℕ) (sources sources′ reached reached′ : List Bool) (r : StoreStep) : Type 0 where
@@ -33,5 +33,5 @@ pub record StorePassed (s : List ℕ) (k : ℕ) (sources sources′ reached reac
 
 pub record StoreStepped (s : List ℕ) (holder k : ℕ) (sources sources′ reached reached′ : List Bool) (r : StoreStep) : Type 0 where
   pub read : r .read ≡ readStore (slotOf s k)
-  pub told : (gs b : List ℕ) → sources ≡ marksOf (b ++ gs) → holder ≡ lastOf b → Told (storeAsks s gs b k) (r .verdict)
+  pub told : (c : Chains) → sources ≡ marksOf (sourcesOf c) → holder ≡ lastOf (c .stores) → Told (storeAsks s c k) (r .verdict)
   pub passed : r .verdict .number ≡ 0 → StorePassed s k sources sources′ reached reached′ r

@@ -16,8 +16,8 @@ use Rattle.slots.specs.declared.store.Store.{Store}
 use Rattle.slots.specs.declared.store.Store.the-variants.{Handling, Standing, Aspiration}
 use Rattle.slots.specs.declared.store.StoreRead.{StoreRead}
 use Rattle.slots.specs.declared.store.StoreRead.the-variants.{Record, WrongKind, OutOfRange}
-use Rattle.slot_file.specs.Sources.{groupAt, storeAt, temperaturesAt}
-use Rattle.slot_file.specs.Questions.{headAsks, lastOf, reachedBy}
+use Rattle.slot_file.specs.Sources.{groupAt, storeAt, temperaturesAt, Chains}
+use Rattle.slot_file.specs.Questions.{headAsks, lastOf, sourcesOf, reachedOf, groupsSoFar, storesSoFar}
 use Rattle.slot_file.specs.Meaning.{AllYes, Groups, Stores, Accepts, Refuses}
 use Rattle.slot_file.specs.Figures.{groupContributions, storeContributions}
 use Rattle.slot_file.specs.Alike.{total}
@@ -25,14 +25,23 @@ use Rattle.slot_file.specs.Parts.{marksOf, annualTo, peakTo}
 use Rattle.totals.specs.Totals.{Totals, totalsOf, noNumbers, totalsIn, plusIn, plusToIn}
 use Rattle.walk.specs.declared.walked.Walked.{Walked}
 
--- the units that the groups gs and the store records ss of a file have together
-abbrev pub unitsOf : (Contribution → ℕ) → List ℕ → List ℕ → List ℕ → ℕ
-unitsOf f s gs ss =
-    total (λ (g : ℕ). total f (groupContributions (temperaturesAt s) (groupAt s g))) gs + total (λ (k : ℕ). total f (storeContributions (storeAt s k))) ss
+-- the units that the sources on the chains have together
+abbrev pub unitsOf : (Contribution → ℕ) → List ℕ → Chains → ℕ
+unitsOf f s c =
+    total (λ (g : ℕ). total f (groupContributions (temperaturesAt s) (groupAt s g))) (c .groups) + total (λ (k : ℕ). total f (storeContributions (storeAt s k))) (c .stores)
 
 -- the exact sums of the sources passed so far
-abbrev pub sumsOf : List ℕ → List ℕ → List ℕ → Totals
-sumsOf s gs ss = totalsOf (λ (c : ℕ). unitsOf (annualTo c) s gs ss) (λ (c : ℕ). unitsOf (peakTo c) s gs ss)
+abbrev pub sumsOf : List ℕ → Chains → Totals
+sumsOf s c = totalsOf (λ (k : ℕ). unitsOf (annualTo k) s c) (λ (k : ℕ). unitsOf (peakTo k) s c)
+
+-- WHAT THE WALK HOLDS after the sources on the chains so far: the marks of the sources and of all that they reach, their counts, and where sums are wanted their exact sums
+pub record Holds (s : List ℕ) (summing : Bool) (sources reached : List Bool) (totals : List ℕ) (groups stores : ℕ) (c : Chains) : Type 0 where
+  pub groups-are : groups ≡ length (c .groups)
+  pub stores-are : stores ≡ length (c .stores)
+  pub sources-are : sources ≡ marksOf (sourcesOf c)
+  pub reached-are : reached ≡ marksOf (reachedOf s c)
+  pub room : length totals ≡ 40
+  pub sums-are : summing ≡ true → totalsIn totals ≡ sumsOf s c
 
 unfoldable pub plusGroup : Bool → List ℕ → GroupAnswer → List ℕ
 plusGroup summing l a = if_then_else summing (plusToIn l (a .emissions) 6) l
@@ -48,13 +57,9 @@ pub record GroupsBegin (s : List ℕ) (sources reached : List Bool) (totals : Li
 -- the groups gs are passed, and the chain goes on at the link
 pub record GroupsPassed (s : List ℕ) (summing : Bool) (sources reached : List Bool) (totals : List ℕ) (holder link count : ℕ) : Type 0 where
   pub gs : List ℕ
-  pub chain : Groups s gs link
+  pub chain : Groups s (groupsSoFar gs) link
   pub holder-is : holder ≡ lastOf gs
-  pub count-is : count ≡ length gs
-  pub sources-are : sources ≡ marksOf gs
-  pub reached-are : reached ≡ marksOf (reachedBy s gs)
-  pub room : length totals ≡ 40
-  pub sums-are : summing ≡ true → totalsIn totals ≡ sumsOf s gs []
+  pub holds : Holds s summing sources reached totals count 0 (groupsSoFar gs)
 
 -- and the chain is at its end
 pub record GroupsEnded (s : List ℕ) (summing : Bool) (sources reached : List Bool) (totals : List ℕ) (count : ℕ) : Type 0 where
@@ -85,19 +90,13 @@ pub record StoresBegin (s : List ℕ) (summing : Bool) (sources reached : List B
   pub header : h ≡ headerOf (slotOf s 0)
   pub groups : GroupsEnded s summing sources reached totals (start .groups)
 
--- the groups gs and the store records ss are passed, and the store chain goes on at the link
+-- the groups of c and the store records ss are passed, and the store chain goes on at the link
 pub record StoresPassed (s : List ℕ) (summing : Bool) (sources reached : List Bool) (totals : List ℕ) (holder link groups stores : ℕ) : Type 0 where
-  pub gs : List ℕ
-  pub ss : List ℕ
-  pub group-chain : Groups s gs 0
-  pub chain : Stores s gs ss link
-  pub holder-is : holder ≡ lastOf ss
-  pub groups-are : groups ≡ length gs
-  pub stores-are : stores ≡ length ss
-  pub sources-are : sources ≡ marksOf (ss ++ gs)
-  pub reached-are : reached ≡ marksOf (ss ++ reachedBy s gs)
-  pub room : length totals ≡ 40
-  pub sums-are : summing ≡ true → totalsIn totals ≡ sumsOf s gs ss
+  pub c : Chains
+  pub group-chain : Groups s c 0
+  pub chain : Stores s c link
+  pub holder-is : holder ≡ lastOf (c .stores)
+  pub holds : Holds s summing sources reached totals groups stores (storesSoFar c (c .stores))
 
 -- and both chains are at their ends
 pub record StoresEnded (s : List ℕ) (summing : Bool) (reached : List Bool) (totals : List ℕ) (r : Walked) : Type 0 where
@@ -111,13 +110,11 @@ pub record StoresWalked (s : List ℕ) (summing : Bool) (reached : List Bool) (t
 
 -- a file that nothing is refused of
 pub record FileAccepted (s : List ℕ) (summing : Bool) (totals : List ℕ) (r : Walked) : Type 0 where
-  pub gs : List ℕ
-  pub ss : List ℕ
-  pub accepts : Accepts s gs ss
-  pub groups-are : r .groups ≡ length gs
-  pub stores-are : r .stores ≡ length ss
-  pub room : length totals ≡ 40
-  pub sums-are : summing ≡ true → totalsIn totals ≡ sumsOf s gs ss
+  pub c : Chains
+  pub accepts : Accepts s c
+  pub sources : List Bool
+  pub reached : List Bool
+  pub holds : Holds s summing sources reached totals (r .groups) (r .stores) c
 
 pub record FileWalked (s : List ℕ) (summing : Bool) (totals : List ℕ) (r : Walked) : Type 0 where
   pub refused : (r .verdict .number ≡ 0 → ⊥) → Refuses s (r .verdict .number) (r .verdict .slot)

@@ -3,7 +3,7 @@ use borrow.Author.Needs.{needs}
 use mathlib.Core.Path.{refl, sym, ap, _∙_}
 use mathlib.Core.List.{reverse}
 use lib.ListN.{length-map, length-reverse}
-use Rattle.slot_file.specs.Sources.{groupAt, storeAt, groupsAt, storesAt}
+use Rattle.slot_file.specs.Sources.{groupAt, storeAt, inventoryAt}
 use Rattle.slot_file.specs.Questions.{accepted, refused}
 use Rattle.slot_file.specs.Figures.{summed}
 use Rattle.slot_file.proofs.Verdicts.{only}
@@ -23,16 +23,16 @@ returns c =
     c .refusal .ensures ∙ sym (refused-answer s (v .number) (v .slot) (only s (refused (v .number) (v .slot)) (w .walk-file .ensures .refused (c .before .if1 .taken))) .0)
 
 returns-2 : tie.Need-returns-2
-unfolding summed groupsAt storesAt
+unfolding summed inventoryAt
 returns-2 c =
     let w = c .before .before .before .before .before .before .before .before in
     let s = w .before .before .before .before .args .file .now in
     let a = w .walk-file .ensures .accepted (c .before .before .before .before .if1 .left) in
-    let f = c .before .before .rounded .ensures ∙ figures-held _ (a .room) ∙ ap figuresOf (a .sums-are refl) ∙ file-figures s (a .gs) (a .ss) (a .accepts) in
-    let g = a .groups-are ∙ sym (length-map (reverse (a .gs)) (groupAt s) ∙ length-reverse (a .gs)) in
-    let k = a .stores-are ∙ sym (length-map (reverse (a .ss)) (storeAt s) ∙ length-reverse (a .ss)) in
+    let f = c .before .before .rounded .ensures ∙ figures-held _ (a .holds .room) ∙ ap figuresOf (a .holds .sums-are refl) ∙ file-figures s (a .c) (a .accepts) in
+    let g = a .holds .groups-are ∙ sym (length-map (reverse (a .c .groups)) (groupAt s) ∙ length-reverse (a .c .groups)) in
+    let k = a .holds .stores-are ∙ sym (length-map (reverse (a .c .stores)) (storeAt s) ∙ length-reverse (a .c .stores)) in
     (λ i. record { number = 0; slot = 0; annual = f i .annual; peak = f i .peak; groups = g i; stores = k i })
-    ∙ sym (accepted-answer s (a .gs) (a .ss) (only s (accepted (a .gs) (a .ss)) (a .accepts)))
+    ∙ sym (accepted-answer s (a .c) (only s (accepted (a .c)) (a .accepts)))
 
 pub answer-spec : {M : Type 1} → statement M
 answer-spec =

@@ -16,7 +16,7 @@ returns c =
 returns-2 : tie.Need-returns-2
 returns-2 c =
     let a = c .before .before .before .before .before .walk-file .ensures .accepted (c .before .if1 .left) in
-    c .accept .ensures ∙ sym (ap (λ (x : Verdict). told x) (only _ (accepted (a .gs) (a .ss)) (a .accepts)))
+    c .accept .ensures ∙ sym (ap (λ (x : Verdict). told x) (only _ (accepted (a .c)) (a .accepts)))
 
 pub check-spec : {M : Type 1} → statement M
 check-spec = tie.close (tie.spec (search needs) (search needs) (λ c κs. c .before .none .ensures) returns (search needs) returns-2)

@@ -45,17 +45,15 @@ returns-4 c =
     let b = c .before .before .before .before .before .before .before .before .before .before .before .before .before .before .before .before .before .before .before .before .before .before in
     let h = b .before .before .ask-head .ensures .all (b .if1 .left) in
     let p = c .before .before .before .before .before .before .before .walk-stores .ensures .ended (c .before .before .if3 .left) .passed in
-    let t = c .ask-reached .ensures _ (p .reached-are) in
+    let t = c .ask-reached .ensures _ (p .holds .reached-are) in
     record {
-      refused = λ z. at-last (p .gs) (p .ss) h (p .group-chain) (p .chain) (t .first z);
+      refused = λ z. at-last (p .c) h (p .group-chain) (p .chain) (t .first z);
       accepted = λ y. record {
-        gs = p .gs;
-        ss = p .ss;
+        c = p .c;
         accepts = record { head = h; groups = p .group-chain; stores = p .chain; last = t .all y };
-        groups-are = p .groups-are;
-        stores-are = p .stores-are;
-        room = p .room;
-        sums-are = p .sums-are;
+        sources = _;
+        reached = _;
+        holds = p .holds;
       };
     }
 

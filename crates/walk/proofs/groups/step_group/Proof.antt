@@ -6,6 +6,7 @@ use mathlib.Core.List.{[]}
 use Rattle.slots.specs.Layout.{groupRead}
 use Rattle.slots.specs.declared.group.GroupRead.{GroupRead}
 use Rattle.slot_file.specs.Sources.{groupAt}
+use Rattle.slot_file.specs.Questions.{groupsSoFar}
 use Rattle.walk.proofs.GroupAsks.{link-told, link-refused, told-before-eleven, eleven-told}
 use Rattle.walk.proofs.groups.step_group.Statement.{statement}
 use Rattle.walk.proofs.groups.step_group.Tie as tie
@@ -47,7 +48,7 @@ returns-2 c =
           eleven-told s b g t (link-told s b g (a .args .holder) _ (l .ask-link .ensures) e (a .pre .1) m h .all (r .before .before .if1 .left))
           (r .read-rows .ensures .told) f (r .read-rows .ensures .coefficients);
       passed = λ y.
-          let z = told-before-eleven s [] g t y in
+          let z = told-before-eleven s (groupsSoFar []) g t y in
           record {
             group = f;
             coefficients = r .read-rows .ensures .coefficients z;

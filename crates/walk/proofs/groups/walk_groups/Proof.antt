@@ -11,7 +11,7 @@ use Rattle.sums.specs.declared.answer.Verdict.{Verdict}
 use Rattle.vehicles.specs.Rules.{groupAnswer}
 use Rattle.slots.specs.declared.header.Header.{Header}
 use Rattle.slot_file.specs.Sources.{temperaturesAt}
-use Rattle.slot_file.specs.Questions.{reachedBy}
+use Rattle.slot_file.specs.Questions.{reachedBy, groupsSoFar}
 use Rattle.slot_file.specs.Meaning.{at-group}
 use Rattle.slot_file.proofs.Verdicts.{bytes-most}
 use Rattle.totals.specs.Totals.{totalsIn}
@@ -35,18 +35,21 @@ loop-holds c =
       gs = [];
       chain = record { chain = ap (λ (h : Header). h .groups) (b .header); good = tt };
       holder-is = refl;
-      count-is = refl;
-      sources-are = b .none-marked;
-      reached-are = b .none-reached;
-      room = ap length (b .none-summed);
-      sums-are = λ _. ap totalsIn (b .none-summed) ∙ no-sums (c .before .before .before .args .file .now);
+      holds = record {
+        groups-are = refl;
+        stores-are = refl;
+        sources-are = b .none-marked;
+        reached-are = b .none-reached;
+        room = ap length (b .none-summed);
+        sums-are = λ _. ap totalsIn (b .none-summed) ∙ no-sums (c .before .before .before .args .file .now);
+      };
     }
 
 step-group-requires : tie.Need-step-group-requires Inv-loop μ-loop
 step-group-requires c κs = (bytes-most _ (c .before .before .before .before .before .before .before .pre .head), c .before .before .loop-test .taken)
 
 same-length : tie.Need-same-length Inv-loop μ-loop
-same-length c = c .before .before .before .before .before .before .before .loop .inv .room ∙ sym (ap length (c .before .before .before .before .before .before .before .before .before .before .before .pre .none-summed))
+same-length c = c .before .before .before .before .before .before .before .loop .inv .holds .room ∙ sym (ap length (c .before .before .before .before .before .before .before .before .before .before .before .pre .none-summed))
 
 returns : tie.Need-returns Inv-loop μ-loop
 returns c =
@@ -54,20 +57,20 @@ returns c =
     let p = b .loop .inv in
     let t = c .before .before .before .step-group .ensures in
     record {
-      refused = λ z. at-group (p .gs) (b .loop .link) (b .before .before .before .before .pre .head) (p .chain) (c .before .before .before .before .before .before .loop-test .taken)
-          (t .told (p .gs) (p .sources-are) (p .holder-is) .first z);
+      refused = λ z. at-group (groupsSoFar (p .gs)) (b .loop .link) (b .before .before .before .before .pre .head) (p .chain) (c .before .before .before .before .before .before .loop-test .taken)
+          (t .told (groupsSoFar (p .gs)) (p .holds .sources-are) (p .holder-is) .first z);
       ended = λ y. absurd (c .if1 .taken y);
     }
 
 add-count : tie.Need-add-count Inv-loop μ-loop
 add-count c =
     let b = c .before .before .before .before .before .before .before .before .before .before .before in
-    omega (arith, groups-short _ (b .before .before .before .before .pre .head) (b .loop .inv .chain), b .loop .inv .count-is)
+    omega (arith, groups-short _ (b .before .before .before .before .pre .head) (b .loop .inv .chain), b .loop .inv .holds .groups-are)
 
 loop-less : tie.Need-loop-less Inv-loop μ-loop
 loop-less c =
     let b = c .before .before .before .before .before .before .before .before .before .before .before in
-    omega (arith, groups-short _ (b .before .before .before .before .pre .head) (b .loop .inv .chain), b .loop .inv .count-is)
+    omega (arith, groups-short _ (b .before .before .before .before .pre .head) (b .loop .inv .chain), b .loop .inv .holds .groups-are)
 
 loop-again : tie.Need-loop-again Inv-loop μ-loop
 unfolding temperaturesAt
@@ -81,7 +84,7 @@ loop-again c =
     (c .before .before .add-group .ensures ∙ ap (λ (ts : List ℤ). plusGroup (a .args .summing) (b .loop .totals) (groupAnswer (r .group) ts (r .coefficients))) e)
 
 same-length-2 : tie.Need-same-length-2 Inv-loop μ-loop
-same-length-2 c = c .before .before .loop .inv .room ∙ sym (ap length (c .before .before .before .before .before .before .pre .none-summed))
+same-length-2 c = c .before .before .loop .inv .holds .room ∙ sym (ap length (c .before .before .before .before .before .before .pre .none-summed))
 
 returns-2 : tie.Need-returns-2 Inv-loop μ-loop
 returns-2 c =

@@ -1,12 +1,11 @@
 -- The questions of the link; the slot is marked where none is answered no.
 use borrow.Author.Needs.{needs}
 use native.Mathlib.Omega.{arith}
-use Prim.Native.Nat.{ℕ}
 use mathlib.Core.Path.{_≡_, refl, ap, _∙_}
-use mathlib.Core.List.{List, _++_}
 use Rattle.slots.specs.Layout.{readNumber}
 use Rattle.slots.specs.declared.store.StoreRead.{StoreRead}
-use Rattle.slot_file.specs.Questions.{lastOf, storeAsks}
+use Rattle.slot_file.specs.Sources.{Chains}
+use Rattle.slot_file.specs.Questions.{lastOf, sourcesOf, storeAsks}
 use Rattle.slot_file.specs.Parts.{marksOf}
 use Rattle.walk.specs.Told.{Told}
 use Rattle.walk.proofs.StoreAsks.{store-told}
@@ -19,8 +18,8 @@ returns c =
     let a = l .before .before .before .before .before in
     let s = a .args .file .now in
     let e = l .before .before .before .read-store .ensures .0 in
-    let told : (gs b : List ℕ) → a .args .sources .now ≡ marksOf (b ++ gs) → a .args .holder ≡ lastOf b → Told (storeAsks s gs b (a .args .link)) _ =
-    λ gs b. store-told s gs b (l .ask-link .ensures) (l .before .number-of .ensures ∙ ap (λ (r : StoreRead). readNumber r) e) (a .pre .1) in
+    let told : (d : Chains) → a .args .sources .now ≡ marksOf (sourcesOf d) → a .args .holder ≡ lastOf (d .stores) → Told (storeAsks s d (a .args .link)) _ =
+    λ d. store-told s d (l .ask-link .ensures) (l .before .number-of .ensures ∙ ap (λ (r : StoreRead). readNumber r) e) (a .pre .1) in
     record { read = e; told = told; passed = λ y. absurd (c .if1 .taken y) }
 
 element-write-sources : tie.Need-element-write-sources
@@ -35,8 +34,8 @@ returns-2 c =
     let a = l .before .before .before .before .before in
     let s = a .args .file .now in
     let e = l .before .before .before .read-store .ensures .0 in
-    let told : (gs b : List ℕ) → a .args .sources .now ≡ marksOf (b ++ gs) → a .args .holder ≡ lastOf b → Told (storeAsks s gs b (a .args .link)) _ =
-    λ gs b. store-told s gs b (l .ask-link .ensures) (l .before .number-of .ensures ∙ ap (λ (r : StoreRead). readNumber r) e) (a .pre .1) in
+    let told : (d : Chains) → a .args .sources .now ≡ marksOf (sourcesOf d) → a .args .holder ≡ lastOf (d .stores) → Told (storeAsks s d (a .args .link)) _ =
+    λ d. store-told s d (l .ask-link .ensures) (l .before .number-of .ensures ∙ ap (λ (r : StoreRead). readNumber r) e) (a .pre .1) in
     record { read = e; told = told; passed = λ _. record { next = c .next-of .ensures; source-marked = refl; slot-marked = refl } }
 
 pub step-store-spec : {M : Type 1} → statement M

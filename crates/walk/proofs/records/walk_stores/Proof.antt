@@ -4,9 +4,9 @@ use borrow.Author.Needs.{needs}
 use native.Mathlib.Omega.{arith}
 use Prim.Native.Nat.{_-_}
 use mathlib.Core.Path.{refl, sym, ap, _∙_}
-use mathlib.Core.List.{[]}
 use Rattle.sums.specs.declared.answer.Verdict.{Verdict}
 use Rattle.slots.specs.declared.header.Header.{Header}
+use Rattle.slot_file.specs.Questions.{groupsSoFar, storesSoFar}
 use Rattle.slot_file.specs.Meaning.{at-store}
 use Rattle.slot_file.proofs.Verdicts.{bytes-most}
 use Rattle.walk.specs.Walked.{StoresPassed}
@@ -26,24 +26,18 @@ loop-holds c =
     let b = c .before .before .pre in
     let p = b .groups .passed in
     record {
-      gs = p .gs;
-      ss = [];
+      c = groupsSoFar (p .gs);
       group-chain = p .chain;
       chain = record { chain = ap (λ (h : Header). h .stores) (b .header); good = tt };
       holder-is = refl;
-      groups-are = p .count-is;
-      stores-are = refl;
-      sources-are = p .sources-are;
-      reached-are = p .reached-are;
-      room = p .room;
-      sums-are = p .sums-are;
+      holds = p .holds;
     }
 
 step-store-requires : tie.Need-step-store-requires Inv-loop μ-loop
 step-store-requires c κs = (bytes-most _ (c .before .before .before .before .before .before .pre .head), c .before .before .loop-test .taken)
 
 same-length : tie.Need-same-length Inv-loop μ-loop
-same-length c = c .before .before .before .before .before .before .before .loop .inv .room ∙ sym (c .before .before .before .before .before .before .before .before .before .before .pre .groups .passed .room)
+same-length c = c .before .before .before .before .before .before .before .loop .inv .holds .room ∙ sym (c .before .before .before .before .before .before .before .before .before .before .pre .groups .passed .holds .room)
 
 returns : tie.Need-returns Inv-loop μ-loop
 returns c =
@@ -51,8 +45,8 @@ returns c =
     let p = b .loop .inv in
     let t = c .before .before .before .step-store .ensures in
     record {
-      refused = λ z. at-store (p .gs) (p .ss) (b .loop .link) (b .before .before .before .pre .head) (p .group-chain) (p .chain)
-          (c .before .before .before .before .before .before .loop-test .taken) (t .told (p .gs) (p .ss) (p .sources-are) (p .holder-is) .first z);
+      refused = λ z. at-store (p .c) (b .loop .link) (b .before .before .before .pre .head) (p .group-chain) (p .chain)
+          (c .before .before .before .before .before .before .loop-test .taken) (t .told (storesSoFar (p .c) (p .c .stores)) (p .holds .sources-are) (p .holder-is) .first z);
       ended = λ y. absurd (c .if1 .taken y);
     }
 
@@ -60,13 +54,13 @@ add-count : tie.Need-add-count Inv-loop μ-loop
 add-count c =
     let b = c .before .before .before .before .before .before .before .before .before .before .before in
     let p = b .loop .inv in
-    omega (arith, stores-short _ (b .before .before .before .pre .head) (p .group-chain) (p .chain), p .stores-are)
+    omega (arith, stores-short _ (b .before .before .before .pre .head) (p .c) (p .group-chain) (p .chain), p .holds .stores-are)
 
 loop-less : tie.Need-loop-less Inv-loop μ-loop
 loop-less c =
     let b = c .before .before .before .before .before .before .before .before .before .before .before in
     let p = b .loop .inv in
-    omega (arith, stores-short _ (b .before .before .before .pre .head) (p .group-chain) (p .chain), p .stores-are)
+    omega (arith, stores-short _ (b .before .before .before .pre .head) (p .c) (p .group-chain) (p .chain), p .holds .stores-are)
 
 loop-again : tie.Need-loop-again Inv-loop μ-loop
 loop-again c =
@@ -76,7 +70,7 @@ loop-again c =
     (c .before .before .add-store .ensures)
 
 same-length-2 : tie.Need-same-length-2 Inv-loop μ-loop
-same-length-2 c = c .before .before .loop .inv .room ∙ sym (c .before .before .before .before .before .pre .groups .passed .room)
+same-length-2 c = c .before .before .loop .inv .holds .room ∙ sym (c .before .before .before .before .before .pre .groups .passed .holds .room)
 
 returns-2 : tie.Need-returns-2 Inv-loop μ-loop
 returns-2 c =
