@@ -1,5 +1,5 @@
 -- The listing of the file's answer.
-use borrow.Author.Needs.{needs}
+use native.Mathlib.Omega.{arith}
 use mathlib.Core.Path.{ap, _∙_}
 use Rattle.slot_file.specs.Listing.{listed}
 use Rattle.slot_file.specs.declared.Answer.{Answer}
@@ -7,4 +7,4 @@ use Rattle.listing.proofs.list.Statement.{statement}
 use Rattle.listing.proofs.list.Tie as tie
 
 pub list-spec : {M : Type 1} → statement M
-list-spec = tie.close (tie.spec (search needs) (search needs) (search needs) (λ c. c .before .before .list-answer .ensures ∙ ap (λ (a : Answer). listed a (c .before .before .before .before .before .before .before .args .buffer .now)) (c .before .before .before .before .answer .ensures)))
+list-spec = tie.close (tie.spec (λ c. omega arith) (λ c. omega arith) (λ c. omega arith) (λ c. c .before .before .list-answer .ensures ∙ ap (λ (a : Answer). listed a (c .before .before .before .before .before .before .before .args .buffer .now)) (c .before .before .before .before .answer .ensures)))

@@ -1,5 +1,4 @@
 -- The array holds the listing, so that its first bytes are what is copied.
-use borrow.Author.Needs.{needs}
 use borrow.Author.Tests.{eq-eqb, ne-eqb, le-leb, lt-leb}
 use native.Mathlib.Omega.{arith}
 use Prim.Native.Nat.{ℕ}
@@ -19,7 +18,7 @@ returns-2 : tie.Need-returns-2
 unfolding listed if_then_else
 returns-2 c =
     let p = c .before .before in
-    let h = held (p .put-listing .ensures .0) (search needs) in
+    let h = held (p .put-listing .ensures .0) (omega arith) in
     simp (eq-eqb _ _ (p .before .before .if1 .left), lt-leb _ _ (rw (h .long) at (c .before .if2 .taken))) (rw (c .refusal .ensures))
 
 returns-3 : tie.Need-returns-3
@@ -29,7 +28,7 @@ returns-3 c =
     let p = d .before in
     let q = p .before .before in
     let a = q .before .before .before .args in
-    let h = held (p .put-listing .ensures .0) (search needs) in
+    let h = held (p .put-listing .ensures .0) (omega arith) in
     simp (eq-eqb _ _ (q .if1 .left), le-leb _ _ (rw (h .long) at (d .if2 .left)))
     (ap₂ (λ (n : ℕ) (b : List ℕ). record { answer = a .a; length = n; buffer = b }) (h .long) (copied (a .buffer .now) h (c .before .before .copy .ensures .1)))
 
@@ -38,11 +37,11 @@ list-answer-spec =
     tie.close
     (tie.spec
     returns
-    (λ c κs. search needs)
-    (λ c κs. search needs)
+    (λ c κs. omega arith)
+    (λ c κs. omega arith)
     returns-2
-    (λ c. held (c .before .put-listing .ensures .0) (search needs) .within)
-    (λ c. held (c .before .before .put-listing .ensures .0) (search needs) .counted)
-    (λ c κs. omega (arith, held (c .before .before .before .put-listing .ensures .0) (search needs) .counted))
-    (search needs)
+    (λ c. held (c .before .put-listing .ensures .0) (omega arith) .within)
+    (λ c. held (c .before .before .put-listing .ensures .0) (omega arith) .counted)
+    (λ c κs. omega (arith, held (c .before .before .before .put-listing .ensures .0) (omega arith) .counted))
+    (λ c. omega arith)
     returns-3)

@@ -1,5 +1,4 @@
 -- The sums of the code's place are changed, where it has one, and the others are as they were (`Forty`).
-use borrow.Author.Needs.{needs}
 use borrow.Author.Tests.{ne-eqb}
 use native.Mathlib.Omega.{arith}
 use Prim.Native.Nat.{ℕ, _+_}
@@ -52,11 +51,11 @@ returns-3 c =
 pub add-spec : {M : Type 1} → statement M
 add-spec =
     tie.close
-    (tie.spec returns (search needs)
+    (tie.spec returns (λ c. omega arith)
     (λ c κs. omega (arith, c .before .if2 .taken, c .before .before .before .if1 .left))
-    (search needs)
+    (λ c. omega arith)
     (λ c κs. omega (arith, c .before .before .before .before .if2 .taken, c .before .before .before .before .before .before .if1 .left))
-    (search needs)
+    (λ c. omega arith)
     (λ c κs. (c .before .before .before .before .before .before .before .before .before .if1 .left, c .before .before .before .before .before .before .before .if2 .taken))
     same-length
     returns-2 returns-3)

@@ -18,7 +18,7 @@ abbrev μ-loop : tie.MeasureT-loop
 
 loop-again : tie.Need-loop-again Inv-loop μ-loop
 unfolding plusToIn mixedOf
-loop-again c = (search needs, search needs, rw add-one (c .before .before .add .ensures ∙ rw (c .before .before .before .before .before .before .loop .inv .2)))
+loop-again c = (omega arith, omega arith, rw add-one (c .before .before .add .ensures ∙ rw (c .before .before .before .before .before .before .loop .inv .2)))
 
 returns : tie.Need-returns Inv-loop μ-loop
 returns c = let e : c .before .loop .i ≡ 6 = omega arith in rw e at (c .before .loop .inv .2)
@@ -27,4 +27,4 @@ pub add-all-spec : {M : Type 1} → statement M
 unfolding plusToIn
 add-all-spec =
     tie.close
-    (tie.spec Inv-loop μ-loop (search needs) (search needs) (search needs) (search needs) (search needs) (search needs) loop-again (search needs) returns)
+    (tie.spec Inv-loop μ-loop (search needs) (λ c. omega arith) (λ c. omega arith) (λ c. omega arith) (λ c. omega arith) (λ c. omega arith) loop-again (λ c. omega arith) returns)

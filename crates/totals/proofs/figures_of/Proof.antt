@@ -28,7 +28,7 @@ abbrev μ-loop : tie.MeasureT-loop
 μ-loop totals annual₀ peak₀ i₀ annual peak i = 10 - i
 
 loop-holds : tie.Need-loop-holds Inv-loop μ-loop
-loop-holds c = (search needs, search needs, search needs, λ m q. absurd (omega arith), λ m q. absurd (omega arith))
+loop-holds c = (omega arith, omega arith, omega arith, λ m q. absurd (omega arith), λ m q. absurd (omega arith))
 
 loop-again : tie.Need-loop-again Inv-loop μ-loop
 unfolding totalsIn
@@ -37,15 +37,15 @@ loop-again c =
     let l = b .before .before .args .totals .now in
     let i = b .loop .i in
     let a = c .before .before in (
+      omega arith,
       search needs,
       search needs,
-      search needs,
-      filled 0 (b .loop .annual) i (a .rounded .result) (annualAt l) (search needs) (b .loop .inv .3)
+      filled 0 (b .loop .annual) i (a .rounded .result) (annualAt l) (omega arith) (b .loop .inv .3)
           (a .rounded .ensures ∙ ap (λ (m : Mixed). annualFigure (record { 0 = m }) % 2 ^ 64) (a .before .sum-at .ensures)
-          ∙ sym (ap (λ (x : AnnualSum). annualFigure x % 2 ^ 64) (listTo-at (annualOf 0) 10 (λ (n : ℕ). record { 0 = sumAt l 0 n }) i (search needs)))),
-      filled 0 (b .loop .peak) i (c .rounded2 .result) (peakAt l) (search needs) (b .loop .inv .4)
+          ∙ sym (ap (λ (x : AnnualSum). annualFigure x % 2 ^ 64) (listTo-at (annualOf 0) 10 (λ (n : ℕ). record { 0 = sumAt l 0 n }) i (omega arith)))),
+      filled 0 (b .loop .peak) i (c .rounded2 .result) (peakAt l) (omega arith) (b .loop .inv .4)
           (c .rounded2 .ensures ∙ ap (λ (m : Mixed). peakFigure (record { 0 = m }) % 2 ^ 64) (c .before .sum-at2 .ensures)
-          ∙ sym (ap (λ (x : PeakSum). peakFigure x % 2 ^ 64) (listTo-at (peakOf 0) 10 (λ (n : ℕ). record { 0 = sumAt l 20 n }) i (search needs)))),
+          ∙ sym (ap (λ (x : PeakSum). peakFigure x % 2 ^ 64) (listTo-at (peakOf 0) 10 (λ (n : ℕ). record { 0 = sumAt l 20 n }) i (omega arith)))),
     )
 
 returns : tie.Need-returns Inv-loop μ-loop
@@ -63,6 +63,6 @@ figures-of-spec =
     tie.close
     (tie.spec Inv-loop μ-loop loop-holds
     (λ c κs. omega (arith, c .loop-test .taken, c .before .before .before .pre))
-    (search needs) (search needs) (search needs)
+    (λ c. omega arith) (λ c. omega arith) (λ c. omega arith)
     (λ c κs. omega (arith, c .before .before .loop-test .taken, c .before .before .before .before .before .pre))
-    (search needs) (search needs) (search needs) (search needs) (search needs) loop-again returns)
+    (λ c. omega arith) (λ c. omega arith) (λ c. omega arith) (λ c. omega arith) (λ c. omega arith) loop-again returns)

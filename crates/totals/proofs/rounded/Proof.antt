@@ -1,5 +1,5 @@
 -- The figures of forty numbers, and of no others.
-use borrow.Author.Needs.{needs}
+use native.Mathlib.Omega.{arith}
 use borrow.Author.Tests.{eq-eqb, ne-eqb}
 use mathlib.Core.Path.{refl}
 use Rattle.sums.proofs.Choices.{yes, no}
@@ -16,4 +16,4 @@ unfolding figuresIn
 returns-2 c = no _ _ _ _ (ne-eqb _ _ (c .if1 .left)) refl
 
 pub rounded-spec : {M : Type 1} → statement M
-rounded-spec = tie.close (tie.spec (search needs) returns returns-2)
+rounded-spec = tie.close (tie.spec (λ c. omega arith) returns returns-2)

@@ -1,5 +1,5 @@
 -- The parts, one after the other.
-use borrow.Author.Needs.{needs}
+use native.Mathlib.Omega.{arith}
 use Rattle.slot_file.specs.Listing.{text, line}
 use Rattle.listing.proofs.Writing.{then}
 use Rattle.listing.proofs.lines.put_line.Statement.{statement}
@@ -14,9 +14,9 @@ returns c =
     let r = t .before .before in
     let d = r .before .before in
     let tonnes = then (then (d .put-padded .ensures .0) (r .put-byte .ensures)) (t .put-fixed .ensures .0) in
-    (then (then (then tonnes (s .put-byte2 .ensures)) (g .put-fixed2 .ensures .0)) (c .put-byte3 .ensures), search needs)
+    (then (then (then tonnes (s .put-byte2 .ensures)) (g .put-fixed2 .ensures .0)) (c .put-byte3 .ensures), omega arith)
 
 pub put-line-spec : {M : Type 1} → statement M
 put-line-spec =
     tie.close
-    (tie.spec (λ c κs. search needs) (λ c κs. search needs) (λ c κs. search needs) (λ c κs. search needs) (λ c κs. search needs) (λ c κs. search needs) returns)
+    (tie.spec (λ c κs. omega arith) (λ c κs. omega arith) (λ c κs. omega arith) (λ c κs. omega arith) (λ c κs. omega arith) (λ c κs. omega arith) returns)

@@ -1,5 +1,4 @@
 -- The lines from the next code on are what is due.
-use borrow.Author.Needs.{needs}
 use native.Mathlib.Nat.{add-zero}
 use native.Mathlib.Omega.{arith}
 use native.Mathlib.Numerals.{add-one}
@@ -29,20 +28,20 @@ abbrev μ-loop : tie.MeasureT-loop
 
 loop-holds : tie.Need-loop-holds Inv-loop μ-loop
 unfolding linesFrom
-loop-holds c = (search needs, search needs, record { same = refl; ends = refl })
+loop-holds c = (omega arith, omega arith, record { same = refl; ends = refl })
 
 loop-again : tie.Need-loop-again Inv-loop μ-loop
 loop-again c =
     let b = c .before .before .before .before .before in
     let a = b .before .args .t3 in
-    (search needs, search needs, turn (b .loop .inv .2) (next codes (a .annual) (a .peak) (b .loop .i) (search needs)) (c .put-line .ensures .0))
+    (omega arith, omega arith, turn (b .loop .inv .2) (next codes (a .annual) (a .peak) (b .loop .i) (omega arith)) (c .put-line .ensures .0))
 
 returns : tie.Need-returns Inv-loop μ-loop
 unfolding linesFrom lines
 returns c =
     let b = c .before in
     let e : b .loop .i ≡ 10 = omega arith in
-    (done (b .loop .inv .2) (rw e), search needs)
+    (done (b .loop .inv .2) (rw e), omega arith)
 
 pub put-lines-spec : {M : Type 1} → statement M
 put-lines-spec =
@@ -51,14 +50,14 @@ put-lines-spec =
     Inv-loop
     μ-loop
     loop-holds
-    (search needs)
-    (search needs)
-    (search needs)
-    (search needs)
-    (search needs)
-    (search needs)
-    (λ c κs. search needs)
-    (search needs)
-    (search needs)
+    (λ c. omega arith)
+    (λ c. omega arith)
+    (λ c. omega arith)
+    (λ c. omega arith)
+    (λ c. omega arith)
+    (λ c. omega arith)
+    (λ c κs. omega arith)
+    (λ c. omega arith)
+    (λ c. omega arith)
     loop-again
     returns)

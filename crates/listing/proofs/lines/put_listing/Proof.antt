@@ -1,5 +1,5 @@
 -- The parts, one after the other.
-use borrow.Author.Needs.{needs}
+use native.Mathlib.Omega.{arith}
 use Rattle.slot_file.specs.Listing.{text, listing}
 use Rattle.listing.proofs.Writing.{then, paired}
 use Rattle.listing.proofs.lines.put_listing.Statement.{statement}
@@ -12,18 +12,18 @@ returns c =
     let l = s .before .before .before in
     let h = l .before .before in
     let a = h .before .before .before .args .a in
-    (paired (a .groups) (a .stores) (then (then (h .put-text .ensures) (l .put-lines .ensures .0)) (s .put-text2 .ensures)) (c .put-pair .ensures .0), search needs)
+    (paired (a .groups) (a .stores) (then (then (h .put-text .ensures) (l .put-lines .ensures .0)) (s .put-text2 .ensures)) (c .put-pair .ensures .0), omega arith)
 
 pub put-listing-spec : {M : Type 1} → statement M
 put-listing-spec =
     tie.close
     (tie.spec
-    (search needs)
-    (λ c κs. search needs)
-    (λ c κs. search needs)
-    (search needs)
-    (λ c κs. search needs)
-    (search needs)
-    (search needs)
-    (λ c κs. search needs)
+    (λ c. omega arith)
+    (λ c κs. omega arith)
+    (λ c κs. omega arith)
+    (λ c. omega arith)
+    (λ c κs. omega arith)
+    (λ c. omega arith)
+    (λ c. omega arith)
+    (λ c κs. omega arith)
     returns)

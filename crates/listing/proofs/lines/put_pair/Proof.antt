@@ -1,5 +1,5 @@
 -- The parts, one after the other.
-use borrow.Author.Needs.{needs}
+use native.Mathlib.Omega.{arith}
 use Rattle.slot_file.specs.Listing.{text}
 use Rattle.listing.proofs.Writing.{then}
 use Rattle.listing.proofs.lines.put_pair.Statement.{statement}
@@ -11,9 +11,9 @@ returns c =
     let y = c .before .before in
     let s = y .before .before in
     let x = s .before .before in
-    (then (then (then (x .put-decimal .ensures .0) (s .put-byte .ensures)) (y .put-decimal2 .ensures .0)) (c .put-byte2 .ensures), search needs)
+    (then (then (then (x .put-decimal .ensures .0) (s .put-byte .ensures)) (y .put-decimal2 .ensures .0)) (c .put-byte2 .ensures), omega arith)
 
 pub put-pair-spec : {M : Type 1} → statement M
 put-pair-spec =
     tie.close
-    (tie.spec (λ c κs. search needs) (λ c κs. search needs) (λ c κs. search needs) (λ c κs. search needs) returns)
+    (tie.spec (λ c κs. omega arith) (λ c κs. omega arith) (λ c κs. omega arith) (λ c κs. omega arith) returns)

@@ -1,5 +1,5 @@
 -- The parts, one after the other.
-use borrow.Author.Needs.{needs}
+use native.Mathlib.Omega.{arith}
 use Rattle.slot_file.specs.Listing.{text, refusalLine}
 use Rattle.listing.proofs.Writing.{paired}
 use Rattle.listing.proofs.lines.put_refusal.Statement.{statement}
@@ -10,7 +10,7 @@ unfolding refusalLine text
 returns c =
     let t = c .before .before in
     let a = t .before .before .before .args in
-    (paired (a .number) (a .slot) (t .put-text .ensures) (c .put-pair .ensures .0), search needs)
+    (paired (a .number) (a .slot) (t .put-text .ensures) (c .put-pair .ensures .0), omega arith)
 
 pub put-refusal-spec : {M : Type 1} → statement M
-put-refusal-spec = tie.close (tie.spec (search needs) (λ c κs. search needs) (λ c κs. search needs) returns)
+put-refusal-spec = tie.close (tie.spec (λ c. omega arith) (λ c κs. omega arith) (λ c κs. omega arith) returns)

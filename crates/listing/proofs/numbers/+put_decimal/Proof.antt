@@ -1,5 +1,4 @@
 -- The last digit goes after the digits of a tenth; x falls with each call.
-use borrow.Author.Needs.{needs}
 use borrow.Fn.Kinds.{In}
 use borrow.Fn.PlainCycle.{Measures, is, falls, and}
 use Prim.Native.Nat.{ℕ, _<_}
@@ -31,14 +30,14 @@ pub +put-decimal-spec : {M : Type 1} → statement M
 )
     (put-decimal-at t)
     put-decimal.Post
-    (λ c. search needs)
-    (λ c. search needs)
-    (λ c κs. search needs)
-    (λ c κs. search needs)
-    (λ c. search needs)
-    (λ c. search needs)
-    (λ c κs. search needs)
-    (λ c. let x = c .before .before .before .args .x in (rw (decimal-less x x (c .before .before .if1 .taken)) (c .put-byte .ensures), search needs))
+    (λ c. omega arith)
+    (λ c. omega arith)
+    (λ c κs. omega arith)
+    (λ c κs. omega arith)
+    (λ c. omega arith)
+    (λ c. omega arith)
+    (λ c κs. omega arith)
+    (λ c. let x = c .before .before .before .args .x in (rw (decimal-less x x (c .before .before .if1 .taken)) (c .put-byte .ensures), omega arith))
     (λ c.
     let b = c .before .before .before .before in
     let x = b .before .args .x in

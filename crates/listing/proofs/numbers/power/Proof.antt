@@ -1,5 +1,5 @@
 -- Each entry of the table is a power of ten, by one computed test.
-use borrow.Author.Needs.{needs}
+use native.Mathlib.Omega.{arith}
 use borrow.Author.Tests.{eqb-true}
 use Prim.Native.Nat.{ℕ, _^_}
 use native.Mathlib.Nat.{one-le-pow}
@@ -19,8 +19,8 @@ returns : tie.Need-returns
 unfolding allTo
 returns c =
     let n = c .args .n in
-    let e = eqb-true (getD powers n 0) (10 ^ n) (allTo-at 8 (λ (k : ℕ). eqb (getD powers k 0) (10 ^ k)) refl n (search needs)) in
+    let e = eqb-true (getD powers n 0) (10 ^ n) (allTo-at 8 (λ (k : ℕ). eqb (getD powers k 0) (10 ^ k)) refl n (omega arith)) in
     (e, rw e (one-le-pow n 10 (lit< tt)))
 
 pub power-spec : {M : Type 1} → statement M
-power-spec = tie.close (tie.spec (search needs) (search needs) returns)
+power-spec = tie.close (tie.spec (λ c. omega arith) (λ c. omega arith) returns)

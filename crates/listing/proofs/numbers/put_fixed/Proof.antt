@@ -1,5 +1,4 @@
 -- Whole digits, point and decimals, one after the other.
-use borrow.Author.Needs.{needs}
 use native.Mathlib.Omega.{arith}
 use Prim.Native.Nat.{_-_}
 use Rattle.slot_file.specs.Listing.{text, fixed}
@@ -20,4 +19,4 @@ returns c =
 pub put-fixed-spec : {M : Type 1} → statement M
 put-fixed-spec =
     tie.close
-    (tie.spec (λ c κs. search needs) (search needs) (λ c κs. search needs) (λ c κs. search needs) (λ c κs. search needs) returns)
+    (tie.spec (λ c κs. omega arith) (λ c. omega arith) (λ c κs. omega arith) (λ c κs. omega arith) (λ c κs. omega arith) returns)

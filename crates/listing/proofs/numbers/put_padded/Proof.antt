@@ -1,5 +1,4 @@
 -- The digits from the next one on are what is due.
-use borrow.Author.Needs.{needs}
 use native.Mathlib.Omega.{arith}
 use mathlib.Core.Path.{_≡_, refl}
 use Prim.Native.Nat.{_+_, _-_, _≤_}
@@ -16,21 +15,21 @@ abbrev μ-loop : tie.MeasureT-loop
 μ-loop out₀ from x n at₀ left₀ out at left = left
 
 loop-holds : tie.Need-loop-holds Inv-loop μ-loop
-loop-holds c = (search needs, search needs, record { same = refl; ends = refl })
+loop-holds c = (omega arith, omega arith, record { same = refl; ends = refl })
 
 loop-again : tie.Need-loop-again Inv-loop μ-loop
 loop-again c =
     let b = c .before .before .before .before in
     let n = b .loop .left in (
-      search needs,
-      search needs,
+      omega arith,
+      omega arith,
       turn (b .loop .inv .2) (padded-turn n (n - 1) _ (b .before .args .x) (omega arith) (c .before .before .power .ensures .0)) (c .put-byte .ensures),
     )
 
 returns : tie.Need-returns Inv-loop μ-loop
 returns c =
     let b = c .before in
-    (done (b .loop .inv .2) (padded-end (b .loop .left) (b .before .args .x) (search needs)), search needs)
+    (done (b .loop .inv .2) (padded-end (b .loop .left) (b .before .args .x) (omega arith)), omega arith)
 
 pub put-padded-spec : {M : Type 1} → statement M
 put-padded-spec =
@@ -39,12 +38,12 @@ put-padded-spec =
     Inv-loop
     μ-loop
     loop-holds
-    (search needs)
-    (λ c κs. search needs)
-    (search needs)
-    (search needs)
-    (search needs)
-    (λ c κs. search needs)
-    (search needs)
+    (λ c. omega arith)
+    (λ c κs. omega arith)
+    (λ c. omega arith)
+    (λ c. omega arith)
+    (λ c. omega arith)
+    (λ c κs. omega arith)
+    (λ c. omega arith)
     loop-again
     returns)

@@ -1,5 +1,5 @@
 -- The tests, by their own promises.
-use borrow.Author.Needs.{needs}
+use native.Mathlib.Omega.{arith}
 use Rattle.slots.specs.Layout.{coefficientsGood}
 use Rattle.slots.proofs.coefficients.coefficients_good.Statement.{statement}
 use Rattle.slots.proofs.coefficients.coefficients_good.Tie as tie
@@ -8,4 +8,4 @@ pub coefficients-good-spec : {M : Type 1} → statement M
 unfolding coefficientsGood
 coefficients-good-spec =
     tie.close
-    (tie.spec (search needs) (search needs) (λ c. rw (c .zero-from .ensures, c .before .coefficients-in-range .ensures)))
+    (tie.spec (λ c. omega arith) (λ c. omega arith) (λ c. rw (c .zero-from .ensures, c .before .coefficients-in-range .ensures)))

@@ -1,4 +1,5 @@
 -- The fields of the slot and the number, as they are read.
+use native.Mathlib.Omega.{arith}
 use borrow.Author.Needs.{needs}
 use Rattle.slots.specs.Layout.{coefficientsRead}
 use Rattle.slots.proofs.coefficients.read_coefficients.Statement.{statement}
@@ -8,4 +9,4 @@ pub read-coefficients-spec : {M : Type 1} → statement M
 unfolding coefficientsRead
 read-coefficients-spec =
     tie.close
-    (tie.spec (search needs) (search needs) (search needs) (search needs) (search needs) (search needs) (search needs) (search needs) (λ c. rw (c .u16-at .ensures, c .before .before .number-of .ensures, c .before .before .before .coefficients-good .ensures, c .before .before .before .before .before .coefficients-of .ensures, c .before .before .before .before .before .before .slot-at .ensures .0)))
+    (tie.spec (λ c. omega arith) (search needs) (λ c. omega arith) (λ c. omega arith) (λ c. omega arith) (λ c. omega arith) (λ c. omega arith) (λ c. omega arith) (λ c. rw (c .u16-at .ensures, c .before .before .number-of .ensures, c .before .before .before .coefficients-good .ensures, c .before .before .before .before .before .coefficients-of .ensures, c .before .before .before .before .before .before .slot-at .ensures .0)))

@@ -1,5 +1,5 @@
 -- Twelve bytes, as they stand.
-use borrow.Author.Needs.{needs}
+use native.Mathlib.Omega.{arith}
 use mathlib.Core.Path.{refl}
 use Rattle.sums.specs.Choice.{listTo}
 use Rattle.slots.specs.Layout.{daysOf}
@@ -8,4 +8,4 @@ use Rattle.slots.proofs.group.days_of.Tie as tie
 
 pub days-of-spec : {M : Type 1} → statement M
 unfolding daysOf listTo
-days-of-spec = tie.close (tie.spec (search needs) (search needs) (search needs) (search needs) (search needs) (search needs) (search needs) (search needs) (search needs) (search needs) (search needs) (search needs) (λ c. refl))
+days-of-spec = tie.close (tie.spec (λ c. omega arith) (λ c. omega arith) (λ c. omega arith) (λ c. omega arith) (λ c. omega arith) (λ c. omega arith) (λ c. omega arith) (λ c. omega arith) (λ c. omega arith) (λ c. omega arith) (λ c. omega arith) (λ c. omega arith) (λ c. refl))

@@ -1,9 +1,9 @@
 -- Two numbers.
-use borrow.Author.Needs.{needs}
+use native.Mathlib.Omega.{arith}
 use Rattle.slots.specs.Layout.{distancesAt}
 use Rattle.slots.proofs.group.distances_at.Statement.{statement}
 use Rattle.slots.proofs.group.distances_at.Tie as tie
 
 pub distances-at-spec : {M : Type 1} → statement M
 unfolding distancesAt
-distances-at-spec = tie.close (tie.spec (search needs) (search needs) (search needs) (search needs) (search needs) (λ c. rw (c .u16-at2 .ensures, c .before .u16-at .ensures)))
+distances-at-spec = tie.close (tie.spec (λ c. omega arith) (λ c. omega arith) (λ c. omega arith) (λ c. omega arith) (λ c. omega arith) (λ c. rw (c .u16-at2 .ensures, c .before .u16-at .ensures)))

@@ -1,5 +1,5 @@
 -- The tests, by their own promises.
-use borrow.Author.Needs.{needs}
+use native.Mathlib.Omega.{arith}
 use Rattle.slots.specs.Layout.{groupGood}
 use Rattle.slots.proofs.group.group_good.Statement.{statement}
 use Rattle.slots.proofs.group.group_good.Tie as tie
@@ -8,4 +8,4 @@ pub group-good-spec : {M : Type 1} → statement M
 unfolding groupGood
 group-good-spec =
     tie.close
-    (tie.spec (search needs) (search needs) (search needs) (λ c. rw (c .zero-from .ensures, c .before .before .group-in-range .ensures)))
+    (tie.spec (λ c. omega arith) (λ c. omega arith) (λ c. omega arith) (λ c. rw (c .zero-from .ensures, c .before .before .group-in-range .ensures)))

@@ -1,11 +1,36 @@
 -- The fields, as they are read.
-use borrow.Author.Needs.{needs}
+use native.Mathlib.Omega.{arith}
+use Prim.Native.Nat.{_/_, _%_}
+use lib.Dec.{eqb}
+use Rattle.slots.specs.Bytes.{byteAt}
 use Rattle.slots.specs.Layout.{groupOf}
 use Rattle.slots.proofs.group.group_of.Statement.{statement}
 use Rattle.slots.proofs.group.group_of.Tie as tie
 
-pub group-of-spec : {M : Type 1} → statement M
+returns : tie.Need-returns
 unfolding groupOf
+returns c =
+    let d = c .before .before in
+    let n = d .before in
+    let v = n .before .before .before .before .before in
+    let u = v .before in
+    let t = u .before .before .before .before .before .before .args .t .now in
+    λ i. record {
+      category = byteAt t 3;
+      fuel = byteAt t 4;
+      controlled = eqb (byteAt t 5 % 2) 1;
+      heated = eqb (byteAt t 5 / 2 % 2) 1;
+      vehicles = u .u16-at .ensures i;
+      leaving = v .u16-at2 .ensures i;
+      share = byteAt t 10;
+      neutraliser = record { running = byteAt t 11; warming = byteAt t 12 };
+      idle = record { 0 = n .long .ensures i };
+      outward = d .distances-at .ensures i;
+      inward = c .before .distances-at2 .ensures i;
+      days = c .days-of .ensures i;
+    }
+
+pub group-of-spec : {M : Type 1} → statement M
 group-of-spec =
     tie.close
-    (tie.spec (search needs) (search needs) (search needs) (search needs) (search needs) (search needs) (search needs) (search needs) (search needs) (search needs) (search needs) (search needs) (search needs) (search needs) (λ c. rw (c .days-of .ensures, c .before .distances-at2 .ensures, c .before .before .distances-at .ensures, c .before .before .before .long .ensures, c .before .before .before .before .before .before .before .before .u16-at2 .ensures, c .before .before .before .before .before .before .before .before .before .u16-at .ensures)))
+    (tie.spec (λ c. omega arith) (λ c. omega arith) (λ c. omega arith) (λ c. omega arith) (λ c. omega arith) (λ c. omega arith) (λ c. omega arith) (λ c. omega arith) (λ c. omega arith) (λ c. omega arith) (λ c. omega arith) (λ c. omega arith) (λ c. omega arith) (λ c. omega arith) returns)

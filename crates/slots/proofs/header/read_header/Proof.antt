@@ -1,4 +1,5 @@
 -- The fields of slot 0, as they are read.
+use native.Mathlib.Omega.{arith}
 use borrow.Author.Needs.{needs}
 use Rattle.slots.specs.Layout.{headerOf}
 use Rattle.slots.proofs.header.read_header.Statement.{statement}
@@ -8,4 +9,4 @@ pub read-header-spec : {M : Type 1} → statement M
 unfolding headerOf
 read-header-spec =
     tie.close
-    (tie.spec (search needs) (search needs) (search needs) (search needs) (search needs) (search needs) (search needs) (search needs) (λ c. rw (c .zero-from .ensures, c .before .temperatures-of .ensures, c .before .before .u16-at4 .ensures, c .before .before .before .u16-at3 .ensures, c .before .before .before .before .u16-at2 .ensures, c .before .before .before .before .before .u16-at .ensures, c .before .before .before .before .before .before .slot-at .ensures .0)))
+    (tie.spec (λ c. omega arith) (search needs) (λ c. omega arith) (λ c. omega arith) (λ c. omega arith) (λ c. omega arith) (λ c. omega arith) (λ c. omega arith) (λ c. rw (c .zero-from .ensures, c .before .temperatures-of .ensures, c .before .before .u16-at4 .ensures, c .before .before .before .u16-at3 .ensures, c .before .before .before .before .u16-at2 .ensures, c .before .before .before .before .before .u16-at .ensures, c .before .before .before .before .before .before .slot-at .ensures .0)))

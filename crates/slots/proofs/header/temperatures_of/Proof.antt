@@ -1,5 +1,5 @@
 -- Twelve signed numbers, each read back from its bits.
-use borrow.Author.Needs.{needs}
+use native.Mathlib.Omega.{arith}
 use borrow.Author.Needs.{sfits-of}
 use Rattle.sums.specs.Choice.{listTo}
 use Rattle.slots.specs.Layout.{temperaturesOf}
@@ -9,4 +9,4 @@ use Rattle.slots.proofs.header.temperatures_of.Tie as tie
 
 pub temperatures-of-spec : {M : Type 1} → statement M
 unfolding temperaturesOf listTo
-temperatures-of-spec = tie.close (tie.spec (search needs) (search needs) (search needs) (search needs) (search needs) (search needs) (search needs) (search needs) (search needs) (search needs) (search needs) (search needs) (λ c. search (sfits-of, held) depth 20))
+temperatures-of-spec = tie.close (tie.spec (λ c. omega arith) (λ c. omega arith) (λ c. omega arith) (λ c. omega arith) (λ c. omega arith) (λ c. omega arith) (λ c. omega arith) (λ c. omega arith) (λ c. omega arith) (λ c. omega arith) (λ c. omega arith) (λ c. omega arith) (λ c. search (sfits-of, held) depth 20))

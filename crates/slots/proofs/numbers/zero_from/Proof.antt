@@ -16,11 +16,11 @@ abbrev μ-loop : tie.MeasureT-loop
 
 loop-again : tie.Need-loop-again Inv-loop μ-loop
 unfolding zeroFrom
-loop-again c = (search needs, rw (add-one, c .before .before .loop .inv .1))
+loop-again c = (omega arith, rw (add-one, c .before .before .loop .inv .1))
 
 returns : tie.Need-returns Inv-loop μ-loop
 returns c = let e : c .before .loop .i ≡ c .before .before .args .n = omega arith in rw e at (c .before .loop .inv .1)
 
 pub zero-from-spec : {M : Type 1} → statement M
 unfolding zeroFrom
-zero-from-spec = tie.close (tie.spec Inv-loop μ-loop (search needs) (search needs) (search needs) (search needs) (search needs) loop-again returns)
+zero-from-spec = tie.close (tie.spec Inv-loop μ-loop (search needs) (λ c. omega arith) (λ c. omega arith) (λ c. omega arith) (λ c. omega arith) loop-again returns)

@@ -1,5 +1,4 @@
 -- A slot that the file has is the part of it from 64 n on; one that it has not is the zeros.
-use borrow.Author.Needs.{needs}
 use borrow.Author.Tests.{lt-ltb, le-ltb}
 use native.Mathlib.Omega.{arith}
 use mathlib.Core.Path.{_≡_, sym, ap, _∙_}
@@ -29,4 +28,4 @@ returns-2 c = let e = c .before .pre in (no _ _ _ _ (le-ltb _ _ (c .if1 .left)) 
 pub slot-at-spec : {M : Type 1} → statement M
 slot-at-spec =
     tie.close
-    (tie.spec (search needs) (search needs) (search needs) (search needs) (search needs) (search needs) returns returns-2)
+    (tie.spec (λ c. omega arith) (λ c. omega arith) (λ c. omega arith) (λ c. omega arith) (λ c. omega arith) (λ c. omega arith) returns returns-2)

@@ -1,5 +1,5 @@
 -- The tests, by their own promises.
-use borrow.Author.Needs.{needs}
+use native.Mathlib.Omega.{arith}
 use Rattle.slots.specs.Layout.{aspirationGood}
 use Rattle.slots.proofs.store.aspiration_good.Statement.{statement}
 use Rattle.slots.proofs.store.aspiration_good.Tie as tie
@@ -8,4 +8,4 @@ pub aspiration-good-spec : {M : Type 1} → statement M
 unfolding aspirationGood
 aspiration-good-spec =
     tie.close
-    (tie.spec (search needs) (search needs) (search needs) (λ c. rw (c .zero-from2 .ensures, c .before .zero-from .ensures, c .before .before .aspiration-in-range .ensures)))
+    (tie.spec (λ c. omega arith) (λ c. omega arith) (λ c. omega arith) (λ c. rw (c .zero-from2 .ensures, c .before .zero-from .ensures, c .before .before .aspiration-in-range .ensures)))

@@ -1,5 +1,5 @@
 -- The fields, as they are read.
-use borrow.Author.Needs.{needs}
+use native.Mathlib.Omega.{arith}
 use Rattle.slots.specs.Layout.{aspirationOf}
 use Rattle.slots.proofs.store.aspiration_of.Statement.{statement}
 use Rattle.slots.proofs.store.aspiration_of.Tie as tie
@@ -8,4 +8,4 @@ pub aspiration-of-spec : {M : Type 1} → statement M
 unfolding aspirationOf
 aspiration-of-spec =
     tie.close
-    (tie.spec (search needs) (search needs) (search needs) (search needs) (search needs) (search needs) (λ c. rw (c .u16-at3 .ensures, c .before .u16-at2 .ensures, c .before .before .u32-at2 .ensures, c .before .before .before .u32-at .ensures, c .before .before .before .before .u16-at .ensures)))
+    (tie.spec (λ c. omega arith) (λ c. omega arith) (λ c. omega arith) (λ c. omega arith) (λ c. omega arith) (λ c. omega arith) (λ c. rw (c .u16-at3 .ensures, c .before .u16-at2 .ensures, c .before .before .u32-at2 .ensures, c .before .before .before .u32-at .ensures, c .before .before .before .before .u16-at .ensures)))

@@ -1,5 +1,5 @@
 -- The fields, as they are read.
-use borrow.Author.Needs.{needs}
+use native.Mathlib.Omega.{arith}
 use Rattle.slots.specs.Layout.{handlingOf}
 use Rattle.slots.proofs.store.handling_of.Statement.{statement}
 use Rattle.slots.proofs.store.handling_of.Tie as tie
@@ -8,4 +8,4 @@ pub handling-of-spec : {M : Type 1} → statement M
 unfolding handlingOf
 handling-of-spec =
     tie.close
-    (tie.spec (search needs) (search needs) (λ c. rw (c .before .bulk-of .ensures)))
+    (tie.spec (λ c. omega arith) (λ c. omega arith) (λ c. rw (c .before .bulk-of .ensures)))

@@ -1,5 +1,5 @@
 -- The fields, as they are read.
-use borrow.Author.Needs.{needs}
+use native.Mathlib.Omega.{arith}
 use Rattle.slots.specs.Layout.{standingOf}
 use Rattle.slots.proofs.store.standing_of.Statement.{statement}
 use Rattle.slots.proofs.store.standing_of.Tie as tie
@@ -8,4 +8,4 @@ pub standing-of-spec : {M : Type 1} → statement M
 unfolding standingOf
 standing-of-spec =
     tie.close
-    (tie.spec (search needs) (search needs) (λ c. rw (c .u16-at .ensures, c .before .bulk-of .ensures)))
+    (tie.spec (λ c. omega arith) (λ c. omega arith) (λ c. rw (c .u16-at .ensures, c .before .bulk-of .ensures)))

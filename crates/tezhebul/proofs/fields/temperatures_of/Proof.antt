@@ -19,23 +19,23 @@ abbrev μ-loop : tie.MeasureT-loop
 μ-loop temperatures ts₀ m₀ ts m = 12 - m
 
 loop-holds : tie.Need-loop-holds Inv-loop μ-loop
-loop-holds c = (search needs, search needs, search needs, λ k q. absurd (omega arith))
+loop-holds c = (omega arith, omega arith, omega arith, λ k q. absurd (omega arith))
 
 loop-again : tie.Need-loop-again Inv-loop μ-loop
 loop-again c =
     let b = c .before .before in
     let l = b .before .args .temperatures .now in (
-      search needs,
+      omega arith,
       search needs,
       b .loop .inv .2,
-      filled (pos 0) (b .loop .ts) (b .loop .m) _ (λ (k : ℕ). getD l k (pos 0)) (search needs) (b .loop .inv .3) (toZ-ofZ (sfits-of (c .ts .given))),
+      filled (pos 0) (b .loop .ts) (b .loop .m) _ (λ (k : ℕ). getD l k (pos 0)) (omega arith) (b .loop .inv .3) (toZ-ofZ (sfits-of (c .ts .given))),
     )
 
 returns : tie.Need-returns Inv-loop μ-loop
 returns c =
     let b = c .before in
-    ext-getD (pos 0) (b .loop .ts) _ (search needs) (λ k q. b .loop .inv .3 k (omega arith))
+    ext-getD (pos 0) (b .loop .ts) _ (omega arith) (λ k q. b .loop .inv .3 k (omega arith))
 
 pub temperatures-of-spec : {M : Type 1} → statement M
 temperatures-of-spec =
-    tie.close (tie.spec Inv-loop μ-loop loop-holds (search needs) (search needs) (search needs) (search needs) (search needs) (search needs) loop-again returns)
+    tie.close (tie.spec Inv-loop μ-loop loop-holds (λ c. omega arith) (λ c. omega arith) (λ c. omega arith) (λ c. omega arith) (λ c. omega arith) (λ c. omega arith) loop-again returns)

@@ -1,5 +1,5 @@
 -- The numbers of the answer, of which there are 24.
-use borrow.Author.Needs.{needs}
+use native.Mathlib.Omega.{arith}
 use Rattle.sums.specs.Choice.{listTo}
 use Rattle.tezhebul.proofs.files.give_answer.Statement.{statement}
 use Rattle.tezhebul.proofs.files.give_answer.Tie as tie
@@ -9,4 +9,4 @@ unfolding listTo
 returns c = rw (c .before .before .before .before .before .numbers-of .ensures) at (c .before .before .give .ensures)
 
 pub give-answer-spec : {M : Type 1} → statement M
-give-answer-spec = tie.close (tie.spec (search needs) (search needs) (search needs) (search needs) returns)
+give-answer-spec = tie.close (tie.spec (λ c. omega arith) (λ c. omega arith) (λ c. omega arith) (λ c. omega arith) returns)

@@ -1,5 +1,5 @@
 -- The check's number and slot in one.
-use borrow.Author.Needs.{needs}
+use native.Mathlib.Omega.{arith}
 use mathlib.Core.Path.{ap}
 use Rattle.sums.specs.declared.answer.Verdict.{Verdict}
 use Rattle.tezhebul.specs.Numbers.{packed}
@@ -9,4 +9,4 @@ use Rattle.tezhebul.proofs.files.tezhebul_check.Tie as tie
 pub tezhebul-check-spec : {M : Type 1} → statement M
 tezhebul-check-spec =
     tie.close
-    (tie.spec (search needs) (search needs) (search needs) (search needs) (search needs) (λ c. ap (λ (v : Verdict). packed v) (c .before .before .check .ensures)))
+    (tie.spec (λ c. omega arith) (λ c. omega arith) (λ c. omega arith) (λ c. omega arith) (λ c. omega arith) (λ c. ap (λ (v : Verdict). packed v) (c .before .before .check .ensures)))

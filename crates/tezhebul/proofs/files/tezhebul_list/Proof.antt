@@ -1,5 +1,5 @@
 -- The listing, and the numbers of what it answers.
-use borrow.Author.Needs.{needs}
+use native.Mathlib.Omega.{arith}
 use mathlib.Core.Path.{ap, _∙_}
 use Rattle.slot_file.specs.Listing.{Listed}
 use Rattle.tezhebul.specs.Numbers.{numbersOf, into}
@@ -17,4 +17,4 @@ returns c =
     )
 
 pub tezhebul-list-spec : {M : Type 1} → statement M
-tezhebul-list-spec = tie.close (tie.spec (search needs) (search needs) (search needs) (search needs) returns)
+tezhebul-list-spec = tie.close (tie.spec (λ c. omega arith) (λ c. omega arith) (λ c. omega arith) (λ c. omega arith) returns)

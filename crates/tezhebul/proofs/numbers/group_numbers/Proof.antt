@@ -1,5 +1,4 @@
 -- The numbers of the emissions that are left, from here on, make the whole.
-use borrow.Author.Needs.{needs}
 use native.Mathlib.Omega.{arith}
 use native.Mathlib.Numerals.{add-one}
 use Prim.Native.Nat.{_+_, _*_, _≤_, _-_}
@@ -22,7 +21,7 @@ abbrev μ-loop : tie.MeasureT-loop
 μ-loop es numbers₀ p₀ numbers p = 6 - p
 
 loop-holds : tie.Need-loop-holds Inv-loop μ-loop
-loop-holds c = (search needs, search needs, search needs, record { same = refl; ends = refl })
+loop-holds c = (omega arith, omega arith, omega arith, record { same = refl; ends = refl })
 
 loop-again : tie.Need-loop-again Inv-loop μ-loop
 unfolding mixedOf
@@ -30,10 +29,10 @@ loop-again c =
     let b = c .before .before .before .before .before .before .before in
     let es = b .before .before .before .args .t2 in
     let e = c .before .before .before .before .emission-numbers .ensures in (
-      search needs,
-      search needs,
+      omega arith,
+      omega arith,
       b .loop .inv .2,
-      turn {a = emissionNumbers (getD es (b .loop .p) noEmission)} (b .loop .inv .3) (rw add-one (ap emissionsNumbers (drop-cons es (b .loop .p) noEmission (search needs))))
+      turn {a = emissionNumbers (getD es (b .loop .p) noEmission)} (b .loop .inv .3) (rw add-one (ap emissionsNumbers (drop-cons es (b .loop .p) noEmission (omega arith))))
           (record { stored = c .before .put-numbers .ensures ∙ ap (sets (b .loop .numbers) (2 + 5 * b .loop .p)) e; next = omega arith }),
     )
 
@@ -48,5 +47,5 @@ returns c =
 pub group-numbers-spec : {M : Type 1} → statement M
 group-numbers-spec =
     tie.close
-    (tie.spec Inv-loop μ-loop (search needs) (search needs) (search needs) (search needs) loop-holds (search needs) (search needs) (search needs)
-    (search needs) (search needs) (search needs) (search needs) (search needs) (search needs) (search needs) loop-again returns)
+    (tie.spec Inv-loop μ-loop (λ c. omega arith) (λ c. omega arith) (λ c. omega arith) (λ c. omega arith) loop-holds (λ c. omega arith) (λ c. omega arith) (λ c. omega arith)
+    (λ c. omega arith) (λ c. omega arith) (λ c. omega arith) (λ c. omega arith) (λ c. omega arith) (λ c. omega arith) (λ c. omega arith) loop-again returns)

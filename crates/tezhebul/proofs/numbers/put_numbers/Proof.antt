@@ -18,14 +18,14 @@ abbrev μ-loop : tie.MeasureT-loop
 μ-loop numbers out₀ from i₀ out i = length numbers - i
 
 loop-holds : tie.Need-loop-holds Inv-loop μ-loop
-loop-holds c = (search needs, refl, search needs, rw add-zero)
+loop-holds c = (omega arith, refl, omega arith, rw add-zero)
 
 loop-again : tie.Need-loop-again Inv-loop μ-loop
 loop-again c =
     let b = c .before .before in
     let l = b .before .args .numbers .now in
     let at = b .before .args .from + b .loop .i in
-    (search needs, search needs, b .loop .inv .2, rw (add-one, add-suc) (sym (ap (sets (b .loop .out) at) (drop-cons l (b .loop .i) 0 (search needs))) ∙ b .loop .inv .3))
+    (omega arith, search needs, b .loop .inv .2, rw (add-one, add-suc) (sym (ap (sets (b .loop .out) at) (drop-cons l (b .loop .i) 0 (omega arith))) ∙ b .loop .inv .3))
 
 returns : tie.Need-returns Inv-loop μ-loop
 returns c =
@@ -36,4 +36,4 @@ returns c =
 pub put-numbers-spec : {M : Type 1} → statement M
 put-numbers-spec =
     tie.close
-    (tie.spec Inv-loop μ-loop loop-holds (search needs) (search needs) (search needs) (search needs) (search needs) (search needs) (search needs) loop-again (search needs) returns)
+    (tie.spec Inv-loop μ-loop loop-holds (λ c. omega arith) (λ c. omega arith) (λ c. omega arith) (λ c. omega arith) (λ c. omega arith) (λ c. omega arith) (λ c. omega arith) loop-again (λ c. omega arith) returns)

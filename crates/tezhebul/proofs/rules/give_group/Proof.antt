@@ -1,5 +1,5 @@
 -- The numbers of the answer, of which there are 32.
-use borrow.Author.Needs.{needs}
+use native.Mathlib.Omega.{arith}
 use mathlib.Core.Path.{_≡_}
 use lib.ListN.{length}
 use Rattle.tezhebul.proofs.rules.give_group.Statement.{statement}
@@ -9,8 +9,8 @@ returns : tie.Need-returns
 returns c =
     let b = c .before .before .before .before .before in
     let g = c .before .before .give .ensures in
-    let e : length (b .group-numbers .result) ≡ 32 = search needs in
+    let e : length (b .group-numbers .result) ≡ 32 = omega arith in
     (rw e at (g .0), rw (b .group-numbers .ensures) at (g .1))
 
 pub give-group-spec : {M : Type 1} → statement M
-give-group-spec = tie.close (tie.spec (search needs) (search needs) (search needs) (search needs) returns)
+give-group-spec = tie.close (tie.spec (λ c. omega arith) (λ c. omega arith) (λ c. omega arith) (λ c. omega arith) returns)

@@ -1,10 +1,10 @@
 -- The numbers of the answer, of which there are 7.
-use borrow.Author.Needs.{needs}
+use native.Mathlib.Omega.{arith}
 use Rattle.tezhebul.proofs.rules.give_store.Statement.{statement}
 use Rattle.tezhebul.proofs.rules.give_store.Tie as tie
 
 pub give-store-spec : {M : Type 1} → statement M
 give-store-spec =
     tie.close
-    (tie.spec (search needs) (search needs) (search needs) (search needs)
+    (tie.spec (λ c. omega arith) (λ c. omega arith) (λ c. omega arith) (λ c. omega arith)
     (λ c. rw (c .before .before .before .before .before .store-numbers .ensures) at (c .before .before .give .ensures)))

@@ -1,5 +1,5 @@
 -- The lengths choose; where they are right, the numbers of the rule's answer.
-use borrow.Author.Needs.{needs}
+use native.Mathlib.Omega.{arith}
 use borrow.Author.Tests.{eqb-true}
 use Prim.Native.Nat.{ℕ}
 use mathlib.Core.Path.{_≡_, refl, sym, _∙_}
@@ -43,4 +43,4 @@ returns-2 c = rw (← c .before .right-lengths .ensures, c .if1 .left) (refl, re
 pub tezhebul-group-spec : {M : Type 1} → statement M
 tezhebul-group-spec =
     tie.close
-    (tie.spec (search needs) group-of-requires temperatures-of-requires rows-of-requires (search needs) (search needs) (search needs) returns returns-2)
+    (tie.spec (λ c. omega arith) group-of-requires temperatures-of-requires rows-of-requires (λ c. omega arith) (λ c. omega arith) (λ c. omega arith) returns returns-2)

@@ -1,5 +1,4 @@
 -- The totals are those of the months passed, each month in its own period.
-use borrow.Author.Needs.{needs}
 use native.Mathlib.Omega.{arith}
 use mathlib.Core.Path.{_≡_, refl, ap, _∙_}
 use Prim.Native.Nat.{ℕ, _≤_, _<_, _-_}
@@ -71,7 +70,7 @@ loop-again c =
     let a = c .before .before .before .before .before .before in
     let b = a .before .before .before in
     let s = b .before .before .before .before .args in
-    let x = toZ-ofZ {w = w16} {z = getD (s .t2) (b .loop .i) (pos 0)} (search needs) in
+    let x = toZ-ofZ {w = w16} {z = getD (s .t2) (b .loop .i) (pos 0)} (omega arith) in
     let e : a .conditions-at .result ≡ monthConditions (s .g) (s .t2) (b .loop .i) = simp x at (a .conditions-at .ensures .0) in
     let q = a .conditions-at .result .period in
     let l = a .conditions-at .ensures .1 .period in (

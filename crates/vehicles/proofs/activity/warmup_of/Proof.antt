@@ -1,5 +1,4 @@
 -- The three products, whose sum is in range.
-use borrow.Author.Needs.{needs}
 use native.Mathlib.Omega.{arith}
 use Rattle.sums.specs.Choice.{sumTo}
 use Rattle.vehicles.proofs.Periods.{warmup-parts}
@@ -10,7 +9,7 @@ pub warmup-of-spec : {M : Type 1} → statement M
 unfolding sumTo
 warmup-of-spec =
     tie.close
-    (tie.spec (search needs) (search needs) (search needs) (search needs) (search needs) (search needs) (search needs) (search needs) (search needs)
+    (tie.spec (λ c. omega arith) (λ c. omega arith) (λ c. omega arith) (λ c. omega arith) (λ c. omega arith) (λ c. omega arith) (λ c. omega arith) (λ c. omega arith) (λ c. omega arith)
     (λ c κs.
     let b = c .before .before .before .before .before .before .before .before .before .before .before in
     rw (c .over3 .ensures, c .before .before .before .over2 .ensures, c .before .before .before .before .before .before .over .ensures)

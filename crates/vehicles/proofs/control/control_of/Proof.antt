@@ -1,5 +1,5 @@
 -- The entry of the row of percents, which is the papers' row in percents.
-use borrow.Author.Needs.{needs}
+use native.Mathlib.Omega.{arith}
 use mathlib.Core.Path.{refl, ap, _∙_}
 use borrow.Author.Tests.{eq-eqb, ne-eqb}
 use Rattle.sums.specs.Fraction.{partsOf}
@@ -13,7 +13,7 @@ pub control-of-spec : {M : Type 1} → statement M
 unfolding controlOf partsOf
 control-of-spec =
     tie.close
-    (tie.spec (search needs) (search needs) (search needs) (search needs)
+    (tie.spec (λ c. omega arith) (λ c. omega arith) (λ c. omega arith) (λ c. omega arith)
     (λ c.
     c .wide8 .ensures .0 ∙ scaled-at 100 petrolControl (c .before .before .before .before .args .place)
     ∙ ap (partsOf 100) (yes _ _ _ _ (c .before .before .before .if1 .taken) (yes _ _ _ _ (eq-eqb _ 1 (c .before .if2 .taken)) refl)))

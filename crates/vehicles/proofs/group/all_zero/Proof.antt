@@ -1,5 +1,5 @@
 -- The seven tests, as they stand.
-use borrow.Author.Needs.{needs}
+use native.Mathlib.Omega.{arith}
 use mathlib.Core.Path.{refl}
 use Rattle.vehicles.specs.Fields.{allZero}
 use Rattle.vehicles.proofs.group.all_zero.Statement.{statement}
@@ -7,4 +7,4 @@ use Rattle.vehicles.proofs.group.all_zero.Tie as tie
 
 pub all-zero-spec : {M : Type 1} → statement M
 unfolding allZero
-all-zero-spec = tie.close (tie.spec (search needs) (search needs) (search needs) (search needs) (search needs) (search needs) (λ c. refl))
+all-zero-spec = tie.close (tie.spec (λ c. omega arith) (λ c. omega arith) (λ c. omega arith) (λ c. omega arith) (λ c. omega arith) (λ c. omega arith) (λ c. refl))

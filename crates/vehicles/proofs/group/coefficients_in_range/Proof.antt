@@ -1,5 +1,5 @@
 -- The seven tests, as they stand.
-use borrow.Author.Needs.{needs}
+use native.Mathlib.Omega.{arith}
 use mathlib.Core.Path.{refl}
 use Rattle.vehicles.specs.Fields.{coefficientsInRange}
 use Rattle.vehicles.proofs.group.coefficients_in_range.Statement.{statement}
@@ -7,4 +7,4 @@ use Rattle.vehicles.proofs.group.coefficients_in_range.Tie as tie
 
 pub coefficients-in-range-spec : {M : Type 1} → statement M
 unfolding coefficientsInRange
-coefficients-in-range-spec = tie.close (tie.spec (search needs) (search needs) (search needs) (search needs) (search needs) (search needs) (λ c. refl))
+coefficients-in-range-spec = tie.close (tie.spec (λ c. omega arith) (λ c. omega arith) (λ c. omega arith) (λ c. omega arith) (λ c. omega arith) (λ c. omega arith) (λ c. refl))

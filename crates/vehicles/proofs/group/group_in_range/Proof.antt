@@ -1,5 +1,5 @@
 -- The tests, three of them by their own promises.
-use borrow.Author.Needs.{needs}
+use native.Mathlib.Omega.{arith}
 use Rattle.vehicles.specs.Fields.{groupInRange}
 use Rattle.vehicles.proofs.group.group_in_range.Statement.{statement}
 use Rattle.vehicles.proofs.group.group_in_range.Tie as tie
@@ -8,5 +8,5 @@ pub group-in-range-spec : {M : Type 1} → statement M
 unfolding groupInRange
 group-in-range-spec =
     tie.close
-    (tie.spec (search needs) (search needs) (search needs)
+    (tie.spec (λ c. omega arith) (λ c. omega arith) (λ c. omega arith)
     (λ c. rw (c .before .before .distances-in-range .ensures, c .before .distances-in-range2 .ensures, c .days-in-range .ensures)))

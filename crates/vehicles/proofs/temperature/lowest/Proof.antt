@@ -1,5 +1,4 @@
 -- The least so far is the lowest of the months passed.
-use borrow.Author.Needs.{needs}
 use native.Mathlib.Omega.{arith}
 use mathlib.Core.Path.{_≡_, _∙_}
 use Prim.Native.Nat.{_≤_, _-_}
@@ -21,15 +20,15 @@ abbrev μ-loop : tie.MeasureT-loop
 
 loop-holds : tie.Need-loop-holds Inv-loop μ-loop
 unfolding lowestTo
-loop-holds c = (search needs, toZ-ofZ (search needs))
+loop-holds c = (omega arith, toZ-ofZ (omega arith))
 
 loop-again : tie.Need-loop-again Inv-loop μ-loop
 unfolding lowestTo
 loop-again c =
     let b = c .before .before .before in
-    let x = toZ-ofZ {w = w16} {z = getD (b .before .before .args .t1) (b .loop .i) (pos 0)} (search needs) in
-    let r = toZ-ofZ {w = w16} {z = c .lower .result} (search needs) in
-    (search needs, r ∙ c .lower .ensures ∙ rw (x, b .loop .inv .1, add-one))
+    let x = toZ-ofZ {w = w16} {z = getD (b .before .before .args .t1) (b .loop .i) (pos 0)} (omega arith) in
+    let r = toZ-ofZ {w = w16} {z = c .lower .result} (omega arith) in
+    (omega arith, r ∙ c .lower .ensures ∙ rw (x, b .loop .inv .1, add-one))
 
 returns : tie.Need-returns Inv-loop μ-loop
 returns c = let e : c .before .loop .i ≡ 12 = omega arith in rw e at (c .before .loop .inv .1)
@@ -37,4 +36,4 @@ returns c = let e : c .before .loop .i ≡ 12 = omega arith in rw e at (c .befor
 pub lowest-spec : {M : Type 1} → statement M
 lowest-spec =
     tie.close
-    (tie.spec Inv-loop μ-loop (search needs) loop-holds (search needs) (search needs) (search needs) (search needs) (search needs) loop-again returns)
+    (tie.spec Inv-loop μ-loop (λ c. omega arith) loop-holds (λ c. omega arith) (λ c. omega arith) (λ c. omega arith) (λ c. omega arith) (λ c. omega arith) loop-again returns)

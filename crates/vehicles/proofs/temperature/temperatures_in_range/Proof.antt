@@ -32,8 +32,8 @@ loop-again : tie.Need-loop-again Inv-loop μ-loop
 loop-again c =
     let b = c .before .before .before in
     let ts = b .before .args .t1 in
-    let x = toZ-ofZ {w = w16} {z = getD ts (b .loop .i) (pos 0)} (search needs) in
-    (search needs, rw (b .loop .inv .1, simp x at (c .temperature-in-range .ensures), allTo-step (b .loop .i) (test ts)))
+    let x = toZ-ofZ {w = w16} {z = getD ts (b .loop .i) (pos 0)} (omega arith) in
+    (omega arith, rw (b .loop .inv .1, simp x at (c .temperature-in-range .ensures), allTo-step (b .loop .i) (test ts)))
 
 returns : tie.Need-returns Inv-loop μ-loop
 unfolding temperaturesInRange
@@ -42,4 +42,4 @@ returns c = let e : c .before .loop .i ≡ 12 = omega arith in rw e at (c .befor
 pub temperatures-in-range-spec : {M : Type 1} → statement M
 temperatures-in-range-spec =
     tie.close
-    (tie.spec Inv-loop μ-loop loop-holds (search needs) (search needs) (search needs) (search needs) (search needs) loop-again returns)
+    (tie.spec Inv-loop μ-loop loop-holds (λ c. omega arith) (λ c. omega arith) (λ c. omega arith) (λ c. omega arith) (λ c. omega arith) loop-again returns)

@@ -1,5 +1,5 @@
 -- One percentage after the other.
-use borrow.Author.Needs.{needs}
+use native.Mathlib.Omega.{arith}
 use Rattle.vehicles.specs.Parts.{massParts}
 use Rattle.vehicles.proofs.trip.mass_of.Statement.{statement}
 use Rattle.vehicles.proofs.trip.mass_of.Tie as tie
@@ -20,5 +20,5 @@ returns c =
 pub mass-of-spec : {M : Type 1} → statement M
 mass-of-spec =
     tie.close
-    (tie.spec (search needs) (search needs) (search needs) (search needs) (search needs) (search needs) (search needs) (search needs) (search needs) (search needs) (search needs)
+    (tie.spec (λ c. omega arith) (λ c. omega arith) (λ c. omega arith) (λ c. omega arith) (λ c. omega arith) (λ c. omega arith) (λ c. omega arith) (λ c. omega arith) (λ c. omega arith) (λ c. omega arith) (λ c. omega arith)
     returns)

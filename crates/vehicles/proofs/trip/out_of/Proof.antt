@@ -1,5 +1,4 @@
 -- What is in range has the bounds that the mass asks; the calls together are the definition.
-use borrow.Author.Needs.{needs}
 use native.Mathlib.Omega.{arith}
 use Rattle.sums.proofs.Products.{_⊗_}
 use Rattle.vehicles.specs.Parts.{outParts}
@@ -36,6 +35,6 @@ returns c =
 pub out-of-spec : {M : Type 1} → statement M
 out-of-spec =
     tie.close
-    (tie.spec (λ c. omega arith) (λ c. omega arith) (λ c. omega arith) (λ c. omega arith) (search needs)
+    (tie.spec (λ c. omega arith) (λ c. omega arith) (λ c. omega arith) (λ c. omega arith) (λ c. omega arith)
     (λ c κs. let b = c .before .before .before .before .before .before .before .before .before .before in ranged (b .args .g) (b .pre .0) .outward)
-    (search needs) (search needs) mass-of-requires returns)
+    (λ c. omega arith) (λ c. omega arith) mass-of-requires returns)

@@ -1,5 +1,4 @@
 -- A product of bounded factors, and a sum that fits.
-use borrow.Author.Needs.{needs}
 use native.Mathlib.Omega.{arith}
 use Prim.Native.Nat.{_≤_}
 use mir.Facts.{fits-below}
@@ -11,6 +10,6 @@ pub more-spec : {M : Type 1} → statement M
 more-spec =
     tie.close
     (tie.spec
-    (λ c. let n : c .args .n ≤ 255 = search needs in fits-below tt (n ⊗ c .pre .1))
-    (λ c. let n : c .args .n ≤ 255 = search needs in omega (arith, n ⊗ c .pre .1))
-    (search needs))
+    (λ c. let n : c .args .n ≤ 255 = omega arith in fits-below tt (n ⊗ c .pre .1))
+    (λ c. let n : c .args .n ≤ 255 = omega arith in omega (arith, n ⊗ c .pre .1))
+    (λ c. omega arith))

@@ -1,5 +1,5 @@
 -- Two numbers of 32 bits have a product of 64.
-use borrow.Author.Needs.{needs}
+use native.Mathlib.Omega.{arith}
 use mir.Facts.{fits-below}
 use Prim.Native.Nat.{_≤_}
 use native.Mathlib.Nat.{mul-le-mul}
@@ -11,7 +11,7 @@ product-spec =
     tie.close
     (tie.spec
     (λ c.
-    let p : c .args .a ≤ 4294967295 = search needs in
-    let q : c .args .b ≤ 4294967295 = search needs in
+    let p : c .args .a ≤ 4294967295 = omega arith in
+    let q : c .args .b ≤ 4294967295 = omega arith in
     fits-below tt (mul-le-mul p q))
-    (search needs))
+    (λ c. omega arith))

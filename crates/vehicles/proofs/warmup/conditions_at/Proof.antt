@@ -1,5 +1,5 @@
 -- Its period and its minutes, which are in range at any temperature.
-use borrow.Author.Needs.{needs}
+use native.Mathlib.Omega.{arith}
 use mir.Facts.{toZ-ofZ}
 use Rattle.vehicles.specs.Parts.{conditionsAt}
 use Rattle.vehicles.proofs.Scales.{conditions-in-range}
@@ -10,7 +10,7 @@ pub conditions-at-spec : {M : Type 1} → statement M
 unfolding conditionsAt
 conditions-at-spec =
     tie.close
-    (tie.spec (search needs) (search needs) (search needs)
+    (tie.spec (λ c. omega arith) (λ c. omega arith) (λ c. omega arith)
     (λ c.
     let s = c .before .before .before in
     let t = toZ-ofZ (s .fits .t) in

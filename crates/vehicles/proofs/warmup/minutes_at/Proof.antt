@@ -1,5 +1,5 @@
 -- A heated stand has 15 tenths, another what the table says.
-use borrow.Author.Needs.{needs}
+use native.Mathlib.Omega.{arith}
 use mathlib.Core.Path.{refl, ap, _∙_}
 use mir.Facts.{toZ-ofZ}
 use Rattle.sums.specs.Fraction.{partsOf}
@@ -12,7 +12,7 @@ pub minutes-at-spec : {M : Type 1} → statement M
 unfolding minutesAt partsOf
 minutes-at-spec =
     tie.close
-    (tie.spec (search needs)
+    (tie.spec (λ c. omega arith)
     (λ c. ap (partsOf 10) (yes _ _ _ _ (c .if1 .taken) refl))
     (λ c.
     (simp (toZ-ofZ (c .before .before .fits .t)) at (c .table-minutes .ensures)) ∙ ap (partsOf 10) (no _ _ _ _ (c .before .if1 .left) refl)))

@@ -1,5 +1,5 @@
 -- The entry of the row of tenths, which is the papers' row in tenths.
-use borrow.Author.Needs.{needs}
+use native.Mathlib.Omega.{arith}
 use mathlib.Core.Path.{refl, ap, _∙_}
 use borrow.Author.Tests.{eq-eqb, ne-eqb}
 use mir.Facts.{toZ-ofZ}
@@ -14,7 +14,7 @@ pub table-minutes-spec : {M : Type 1} → statement M
 unfolding tableMinutes partsOf
 table-minutes-spec =
     tie.close
-    (tie.spec (search needs) (search needs) (search needs) (search needs) (search needs)
+    (tie.spec (λ c. omega arith) (λ c. omega arith) (λ c. omega arith) (λ c. omega arith) (λ c. omega arith)
     (λ c.
     let e = simp (toZ-ofZ (c .before .before .fits .t)) at (c .before .warmup-band .ensures .0) in
     rw e (scaled-at 10 carMinutes (warmupBand (c .before .before .args .t))) ∙ ap (partsOf 10) (yes _ _ _ _ (eq-eqb _ 1 (c .if1 .taken)) refl))

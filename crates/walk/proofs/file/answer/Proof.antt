@@ -1,5 +1,5 @@
 -- A refused walk is answered its refusal; the sums of an accepted file have the figures of its exact sums (`FileFigures`), and its counts are the chains' lengths.
-use borrow.Author.Needs.{needs}
+use native.Mathlib.Omega.{arith}
 use mathlib.Core.Path.{refl, sym, ap, _∙_}
 use mathlib.Core.List.{reverse}
 use lib.ListN.{length-map, length-reverse}
@@ -37,4 +37,4 @@ returns-2 c =
 pub answer-spec : {M : Type 1} → statement M
 answer-spec =
     tie.close
-    (tie.spec (search needs) (search needs) (λ c κs. c .before .none .ensures) (search needs) returns (search needs) (search needs) returns-2)
+    (tie.spec (λ c. omega arith) (λ c. omega arith) (λ c κs. c .before .none .ensures) (λ c. omega arith) returns (λ c. omega arith) (λ c. omega arith) returns-2)

@@ -1,5 +1,5 @@
 -- The walk means what the verdict means, and only one verdict does (`Verdicts.only`).
-use borrow.Author.Needs.{needs}
+use native.Mathlib.Omega.{arith}
 use mathlib.Core.Path.{sym, ap, _∙_}
 use Rattle.slot_file.specs.Questions.{Verdict, accepted, refused}
 use Rattle.slot_file.specs.Walk.{told}
@@ -19,4 +19,4 @@ returns-2 c =
     c .accept .ensures ∙ sym (ap (λ (x : Verdict). told x) (only _ (accepted (a .c)) (a .accepts)))
 
 pub check-spec : {M : Type 1} → statement M
-check-spec = tie.close (tie.spec (search needs) (search needs) (λ c κs. c .before .none .ensures) returns (search needs) returns-2)
+check-spec = tie.close (tie.spec (λ c. omega arith) (λ c. omega arith) (λ c κs. c .before .none .ensures) returns (λ c. omega arith) returns-2)

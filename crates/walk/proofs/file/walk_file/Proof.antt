@@ -1,5 +1,5 @@
 -- Each part is told of its questions, and goes on where the part before it ended.
-use borrow.Author.Needs.{needs}
+use native.Mathlib.Omega.{arith}
 use Rattle.slot_file.specs.Questions.{lastAsks}
 use Rattle.slot_file.specs.Meaning.{at-head, at-last}
 use Rattle.slot_file.proofs.Verdicts.{sized}
@@ -60,5 +60,5 @@ returns-4 c =
 pub walk-file-spec : {M : Type 1} → statement M
 walk-file-spec =
     tie.close
-    (tie.spec (search needs) (λ c κs. c .read-header .ensures) returns (search needs) (search needs) walk-groups-requires (search needs) returns-2
-    walk-stores-requires (search needs) returns-3 ask-reached-requires (search needs) returns-4)
+    (tie.spec (λ c. omega arith) (λ c κs. c .read-header .ensures) returns (λ c. omega arith) (λ c. omega arith) walk-groups-requires (λ c. omega arith) returns-2
+    walk-stores-requires (λ c. omega arith) returns-3 ask-reached-requires (λ c. omega arith) returns-4)

@@ -1,5 +1,5 @@
 -- The emissions of the group's rule, where sums are wanted.
-use borrow.Author.Needs.{needs}
+use native.Mathlib.Omega.{arith}
 use mathlib.Core.Path.{refl, ap, _∙_}
 use Rattle.sums.proofs.Choices.{yes, no}
 use Rattle.vehicles.specs.declared.rule.GroupAnswer.{GroupAnswer}
@@ -22,4 +22,4 @@ unfolding plusGroup
 returns-2 c = no _ _ _ _ (c .if1 .left) refl
 
 pub add-group-spec : {M : Type 1} → statement M
-add-group-spec = tie.close (tie.spec (search needs) (search needs) (search needs) returns returns-2)
+add-group-spec = tie.close (tie.spec (λ c. omega arith) (λ c. omega arith) (λ c. omega arith) returns returns-2)

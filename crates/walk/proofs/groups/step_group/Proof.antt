@@ -1,5 +1,4 @@
 -- The questions of the link, of the coefficient links and of question 11, one after the other; the slots are marked as they are passed.
-use borrow.Author.Needs.{needs}
 use native.Mathlib.Omega.{arith}
 use mathlib.Core.Path.{refl, ap}
 use mathlib.Core.List.{[]}
@@ -30,7 +29,7 @@ element-write-reached : tie.Need-element-write-reached
 element-write-reached c = omega (arith, c .before .before .ask-link .ensures .below (c .if1 .left))
 
 read-rows-requires : tie.Need-read-rows-requires
-read-rows-requires c κs = (search needs, ap (λ (r : GroupRead). r .first) (c .before .before .before .before .before .before .read-group .ensures))
+read-rows-requires c κs = (omega arith, ap (λ (r : GroupRead). r .first) (c .before .before .before .before .before .before .read-group .ensures))
 
 returns-2 : tie.Need-returns-2
 unfolding groupAt groupRead
@@ -61,4 +60,4 @@ returns-2 c =
 pub step-group-spec : {M : Type 1} → statement M
 step-group-spec =
     tie.close
-    (tie.spec (search needs) (search needs) (search needs) returns element-write-sources element-write-reached read-rows-requires (search needs) returns-2)
+    (tie.spec (λ c. omega arith) (λ c. omega arith) (λ c. omega arith) returns element-write-sources element-write-reached read-rows-requires (λ c. omega arith) returns-2)

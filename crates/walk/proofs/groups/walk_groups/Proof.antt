@@ -1,6 +1,5 @@
 -- After each step the groups passed are a chain of which every question is answered yes, with its marks and its sums (`Passing`); a chain of different slots
 -- below 1,024 ends.
-use borrow.Author.Needs.{needs}
 use native.Mathlib.Omega.{arith}
 use Prim.Native.Nat.{_-_}
 use mathlib.Core.Path.{refl, sym, ap, _∙_}
@@ -97,4 +96,4 @@ returns-2 c =
 pub walk-groups-spec : {M : Type 1} → statement M
 walk-groups-spec =
     tie.close
-    (tie.spec Inv-loop μ-loop loop-holds step-group-requires same-length returns (search needs) add-count loop-less loop-again (search needs) same-length-2 returns-2)
+    (tie.spec Inv-loop μ-loop loop-holds step-group-requires same-length returns (λ c. omega arith) add-count loop-less loop-again (λ c. omega arith) same-length-2 returns-2)

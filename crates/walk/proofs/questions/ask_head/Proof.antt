@@ -1,5 +1,4 @@
 -- The first question that is answered no, or none.
-use borrow.Author.Needs.{needs}
 use borrow.Author.Tests.{eq-eqb, ne-eqb, not-true, not-false}
 use native.Mathlib.Omega.{arith}
 use mathlib.Core.Path.{sym, _∙_}
@@ -95,5 +94,5 @@ returns-6 c =
 pub ask-head-spec : {M : Type 1} → statement M
 ask-head-spec =
     tie.close
-    (tie.spec (search needs) returns (search needs) returns-2 (search needs) (search needs) returns-3 (search needs) returns-4 (search needs) (search needs)
-    returns-5 (search needs) returns-6)
+    (tie.spec (λ c. omega arith) returns (λ c. omega arith) returns-2 (λ c. omega arith) (λ c. omega arith) returns-3 (λ c. omega arith) returns-4 (λ c. omega arith) (λ c. omega arith)
+    returns-5 (λ c. omega arith) returns-6)

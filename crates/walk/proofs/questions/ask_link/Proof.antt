@@ -1,5 +1,4 @@
 -- The first question that is answered no, or none; the marks tell which slots are known.
-use borrow.Author.Needs.{needs}
 use borrow.Author.Tests.{lt-ltb, le-ltb, eq-eqb, ne-eqb}
 use native.Mathlib.Omega.{arith}
 use mathlib.Core.Path.{ap}
@@ -32,7 +31,7 @@ returns-2 c =
       told = λ before m z.
           told-no 7 (a .args .link) (c .refuse2 .ensures) (omega arith)
           (later _ _ (lt-ltb _ _ (c1 .if1 .left))
-          (here _ _ (ap not (marked before (a .args .link) m z (search needs) (c2 .if2 .taken)))));
+          (here _ _ (ap not (marked before (a .args .link) m z (omega arith) (c2 .if2 .taken)))));
       below = λ y. absurd (not-refused 7 _ (c .refuse2 .ensures) (omega arith) y);
     }
 
@@ -47,7 +46,7 @@ returns-3 c =
       told = λ before m z.
           told-no 8 (a .args .link) (c .refuse3 .ensures) (omega arith)
           (later _ _ (lt-ltb _ _ (c1 .if1 .left))
-          (later _ _ (ap not (marked before (a .args .link) m z (search needs) (c2 .if2 .left)))
+          (later _ _ (ap not (marked before (a .args .link) m z (omega arith) (c2 .if2 .left)))
           (here _ _ (ap not (eq-eqb _ 8 (c3 .if3 .taken))))));
       below = λ y. absurd (not-refused 8 _ (c .refuse3 .ensures) (omega arith) y);
     }
@@ -64,7 +63,7 @@ returns-4 c =
       told = λ before m z.
           told-no 9 (a .args .link) (c .refuse4 .ensures) (omega arith)
           (later _ _ (lt-ltb _ _ (c1 .if1 .left))
-          (later _ _ (ap not (marked before (a .args .link) m z (search needs) (c2 .if2 .left)))
+          (later _ _ (ap not (marked before (a .args .link) m z (omega arith) (c2 .if2 .left)))
           (later _ _ (ap not (ne-eqb _ 8 (c3 .if3 .left)))
           (here _ _ (ap not (eq-eqb _ 9 (c4 .if4 .taken)))))));
       below = λ y. absurd (not-refused 9 _ (c .refuse4 .ensures) (omega arith) y);
@@ -83,17 +82,17 @@ returns-5 c =
           told-yes (c .accept .ensures) (
             lt-ltb _ _ (c1 .if1 .left),
             (
-              ap not (marked before (a .args .link) m z (search needs) (c2 .if2 .left)),
+              ap not (marked before (a .args .link) m z (omega arith) (c2 .if2 .left)),
               (
                 ap not (ne-eqb _ 8 (c3 .if3 .left)),
                 (ap not (ne-eqb _ 9 (c4 .if4 .left)), tt),
               ),
             ),
           );
-      below = λ _. search needs;
+      below = λ _. omega arith;
     }
 
 pub ask-link-spec : {M : Type 1} → statement M
 ask-link-spec =
     tie.close
-    (tie.spec (search needs) returns (search needs) (search needs) returns-2 (search needs) returns-3 (search needs) returns-4 (search needs) returns-5)
+    (tie.spec (λ c. omega arith) returns (λ c. omega arith) (λ c. omega arith) returns-2 (λ c. omega arith) returns-3 (λ c. omega arith) returns-4 (λ c. omega arith) returns-5)

@@ -1,5 +1,4 @@
 -- The slots passed are all reached, so the rest is told of the whole.
-use borrow.Author.Needs.{needs}
 use borrow.Author.Tests.{not-true, not-false}
 use native.Mathlib.Omega.{arith}
 use Prim.Native.Nat.{ℕ, _≤_, _+_, _-_}
@@ -50,4 +49,4 @@ returns-2 c l m =
     told-yes (c .accept .ensures) (b .loop .inv .1 l m .all (rw e tt))
 
 pub ask-reached-spec : {M : Type 1} → statement M
-ask-reached-spec = tie.close (tie.spec Inv-loop μ-loop loop-holds (search needs) (search needs) (search needs) returns (search needs) (search needs) loop-again (search needs) returns-2)
+ask-reached-spec = tie.close (tie.spec Inv-loop μ-loop loop-holds (λ c. omega arith) (λ c. omega arith) (λ c. omega arith) returns (λ c. omega arith) (λ c. omega arith) loop-again (λ c. omega arith) returns-2)

@@ -1,5 +1,4 @@
 -- What was told before, and else question 11.
-use borrow.Author.Needs.{needs}
 use native.Mathlib.Omega.{arith}
 use mathlib.Core.Path.{refl, sym, ap, _∙_}
 use mathlib.Core.Bool.{not}
@@ -28,4 +27,4 @@ returns-3 c =
     }
 
 pub ask-soot-and-lead-spec : {M : Type 1} → statement M
-ask-soot-and-lead-spec = tie.close (tie.spec returns (search needs) (search needs) returns-2 returns-3)
+ask-soot-and-lead-spec = tie.close (tie.spec returns (λ c. omega arith) (λ c. omega arith) returns-2 returns-3)

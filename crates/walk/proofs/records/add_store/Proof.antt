@@ -1,5 +1,5 @@
 -- What the record gives, where sums are wanted.
-use borrow.Author.Needs.{needs}
+use native.Mathlib.Omega.{arith}
 use mathlib.Core.Path.{refl, ap, _∙_}
 use Rattle.sums.proofs.Choices.{yes, no}
 use Rattle.totals.specs.Totals.{plusIn}
@@ -19,4 +19,4 @@ unfolding plusStore
 returns-2 c = no _ _ _ _ (c .if1 .left) refl
 
 pub add-store-spec : {M : Type 1} → statement M
-add-store-spec = tie.close (tie.spec (search needs) (search needs) (search needs) returns returns-2)
+add-store-spec = tie.close (tie.spec (λ c. omega arith) (λ c. omega arith) (λ c. omega arith) returns returns-2)

@@ -1,5 +1,4 @@
 -- The questions of the link; the slot is marked where none is answered no.
-use borrow.Author.Needs.{needs}
 use native.Mathlib.Omega.{arith}
 use mathlib.Core.Path.{_≡_, refl, ap, _∙_}
 use Rattle.slots.specs.Layout.{readNumber}
@@ -41,4 +40,4 @@ returns-2 c =
 pub step-store-spec : {M : Type 1} → statement M
 step-store-spec =
     tie.close
-    (tie.spec (search needs) (search needs) (search needs) returns element-write-sources element-write-reached (search needs) returns-2)
+    (tie.spec (λ c. omega arith) (λ c. omega arith) (λ c. omega arith) returns element-write-sources element-write-reached (λ c. omega arith) returns-2)

@@ -1,5 +1,5 @@
 -- What the record gives, where there is one.
-use borrow.Author.Needs.{needs}
+use native.Mathlib.Omega.{arith}
 use mathlib.Core.Path.{sym, ap, _∙_}
 use Rattle.walk.specs.Walked.{storeEmission}
 use Rattle.walk.proofs.records.store_emission.Statement.{statement}
@@ -9,7 +9,7 @@ pub store-emission-spec : {M : Type 1} → statement M
 unfolding storeEmission
 store-emission-spec =
     tie.close
-    (tie.spec (search needs) (search needs) (search needs) (search needs) (search needs) (search needs)
+    (tie.spec (λ c. omega arith) (λ c. omega arith) (λ c. omega arith) (λ c. omega arith) (λ c. omega arith) (λ c. omega arith)
     (λ c. c .record-emission .ensures ∙ ap storeEmission (sym (c .before .before .read .given .1)))
     (λ c. c .none .ensures ∙ ap storeEmission (sym (c .before .enum-told .given .1)))
     (λ c. c .none2 .ensures ∙ ap storeEmission (sym (c .before .enum-told2 .given .1))))

@@ -1,6 +1,5 @@
 -- After each step the store records passed are a chain, after the groups, of which every question is answered yes, with its marks and its sums (`Passing`); a
 -- chain of different slots below 1,024 ends.
-use borrow.Author.Needs.{needs}
 use native.Mathlib.Omega.{arith}
 use Prim.Native.Nat.{_-_}
 use mathlib.Core.Path.{refl, sym, ap, _∙_}
@@ -83,4 +82,4 @@ returns-2 c =
 pub walk-stores-spec : {M : Type 1} → statement M
 walk-stores-spec =
     tie.close
-    (tie.spec Inv-loop μ-loop loop-holds step-store-requires same-length returns (search needs) add-count loop-less loop-again (search needs) same-length-2 returns-2)
+    (tie.spec Inv-loop μ-loop loop-holds step-store-requires same-length returns (λ c. omega arith) add-count loop-less loop-again (λ c. omega arith) same-length-2 returns-2)

@@ -33,7 +33,7 @@ abbrev μ-loop : tie.MeasureT-loop
 
 loop-holds : tie.Need-loop-holds Inv-loop μ-loop
 unfolding rowsAsks coefficientHolder coefficientSlot marksTo
-loop-holds c = (search needs, search needs, tt, refl, c .before .before .pre .1, refl, λ m q. absurd (omega arith))
+loop-holds c = (omega arith, omega arith, tt, refl, c .before .before .pre .1, refl, λ m q. absurd (omega arith))
 
 returns : tie.Need-returns Inv-loop μ-loop
 returns c =
@@ -44,7 +44,7 @@ returns c =
     record {
       told = record {
         all = λ z. absurd (c .if1 .taken z);
-        first = λ z. no-before (rowsAsks s (a .g) 6) (afterSixth s (a .g) ∷ []) (rows-no s (a .g) 6 (b .loop .n) (search needs) (b .loop .inv .2) (told .first z));
+        first = λ z. no-before (rowsAsks s (a .g) 6) (afterSixth s (a .g) ∷ []) (rows-no s (a .g) 6 (b .loop .n) (omega arith) (b .loop .inv .2) (told .first z));
       };
       coefficients = λ z. absurd (c .if1 .taken z);
       marks = λ z. absurd (c .if1 .taken z);
@@ -68,14 +68,14 @@ loop-again c =
     let row = c .before .before .before .before .before .row-at .ensures in
     let told = c .before .before .before .before .ask-row .ensures (a .g) (b .loop .inv .3) (b .loop .inv .4) row in
     let e = b .loop .inv .4 in (
-      search needs,
+      omega arith,
       search needs,
       rows-yes s (a .g) (b .loop .n) (b .loop .inv .2) (told .all (c .before .before .if1 .left)),
       rw add-one e,
       rw add-one (ap (λ (r : CoefficientsRead). r .next) row ∙ ap (λ (k : ℕ). coefficientsRead (slotOf s k) .next) e),
       rw (add-one, c .slot-index .ensures) (λ i. set (b .loop .inv .5 i) (e i) true),
       filled noCoefficients (b .loop .coefficients) (b .loop .n) _ (λ (m : ℕ). coefficientsRead (slotOf s (coefficientSlot s (a .g) m)) .coefficients)
-          (search needs) (b .loop .inv .6)
+          (omega arith) (b .loop .inv .6)
           (ap (λ (r : CoefficientsRead). r .coefficients) row ∙ ap (λ (k : ℕ). coefficientsRead (slotOf s k) .coefficients) e),
     )
 
@@ -114,5 +114,5 @@ returns-3 c =
 pub read-rows-spec : {M : Type 1} → statement M
 read-rows-spec =
     tie.close
-    (tie.spec Inv-loop μ-loop (search needs) loop-holds (search needs) (search needs) returns (search needs) (search needs) (search needs) (search needs)
-    element-write-reached (search needs) (search needs) loop-again (search needs) returns-2 (search needs) returns-3)
+    (tie.spec Inv-loop μ-loop (λ c. omega arith) loop-holds (λ c. omega arith) (λ c. omega arith) returns (λ c. omega arith) (λ c. omega arith) (λ c. omega arith) (λ c. omega arith)
+    element-write-reached (λ c. omega arith) (λ c. omega arith) loop-again (λ c. omega arith) returns-2 (λ c. omega arith) returns-3)
