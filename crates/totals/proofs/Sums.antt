@@ -63,17 +63,17 @@ module _ (a p : ℕ → ℕ) (x : ℕ → Contribution) where
 
   plus-to : (n : ℕ) → n ≤ 6 → plusTo (totalsOf a p) six n ≡ totalsOf (annualUp n) (peakUp n)
   unfolding plusTo sumTo
-  plus-to zero h = same-totals a (annualUp 0) p (peakUp 0) (λ c. omega arith) (λ c. omega arith)
+  plus-to zero h = same-totals a (annualUp 0) p (peakUp 0) (omega arith) (omega arith)
   plus-to (suc n) h =
       ap (λ (t : Totals). plusEmission t (getD six n noEmission)) (plus-to n (omega arith))
       ∙ ap (plusEmission (totalsOf (annualUp n) (peakUp n))) (listTo-at noEmission 6 (λ (i : ℕ). emitted (x i)) n h)
       ∙ plus-emitted (annualUp n) (peakUp n) (x n)
       ∙ same-totals (λ (c : ℕ). annualUp n c + annualTo c (x n)) (annualUp (suc n)) (λ (c : ℕ). peakUp n c + peakTo c (x n)) (peakUp (suc n))
-      (λ c. omega arith) (λ c. omega arith)
+      (omega arith) (omega arith)
 
   pub plus-six : plusTo (totalsOf a p) six 6 ≡ totalsOf (λ (c : ℕ). a c + total (annualTo c) (listTo 6 x)) (λ (c : ℕ). p c + total (peakTo c) (listTo 6 x))
   unfolding sumTo listTo
   plus-six =
       plus-to 6 (omega arith)
       ∙ same-totals (annualUp 6) (λ (c : ℕ). a c + total (annualTo c) (listTo 6 x)) (peakUp 6) (λ (c : ℕ). p c + total (peakTo c) (listTo 6 x))
-      (λ c. omega arith) (λ c. omega arith)
+      (omega arith) (omega arith)

@@ -63,7 +63,7 @@ module _ (s : List ℕ) where
       let p : ℕ → ℕ = λ (c : ℕ). unitsOf (peakTo c) s (groupsSoFar gs) in
       plus-six a p x
       ∙ same-totals (λ (c : ℕ). a c + total (annualTo c) (listTo 6 x)) (λ (c : ℕ). unitsOf (annualTo c) s (groupsSoFar (g ∷ gs)))
-      (λ (c : ℕ). p c + total (peakTo c) (listTo 6 x)) (λ (c : ℕ). unitsOf (peakTo c) s (groupsSoFar (g ∷ gs))) (λ c. omega arith) (λ c. omega arith)
+      (λ (c : ℕ). p c + total (peakTo c) (listTo 6 x)) (λ (c : ℕ). unitsOf (peakTo c) s (groupsSoFar (g ∷ gs))) (omega arith) (omega arith)
 
   group-marked : (gs : List ℕ) (g : ℕ) → marksTo s g (set (marksOf (reachedBy s gs)) g true) 6 ≡ marksOf (reachedBy s (g ∷ gs))
   unfolding marksTo reachedBy
@@ -113,7 +113,7 @@ one-summed : (a p : ℕ → ℕ) (x : Contribution)
 one-summed a p x =
     plus-emitted a p x
     ∙ same-totals (λ (c : ℕ). a c + annualTo c x) (λ (c : ℕ). a c + total (annualTo c) (x ∷ [])) (λ (c : ℕ). p c + peakTo c x) (λ (c : ℕ). p c + total (peakTo c) (x ∷ []))
-    (λ c. omega arith) (λ c. omega arith)
+    (omega arith) (omega arith)
 
 record-summed : (a p : ℕ → ℕ) (r : Store) → storeInRange r ≡ true → plusEmission (totalsOf a p) (recordEmission r)
     ≡ totalsOf (λ (c : ℕ). a c + total (annualTo c) (storeContributions r)) (λ (c : ℕ). p c + total (peakTo c) (storeContributions r))
@@ -135,7 +135,7 @@ module _ (s : List ℕ) (a : Chains) (ss : List ℕ) where
       ap (λ (r : StoreRead). plusEmission (sumsOf s b) (storeEmission r)) (e .0)
       ∙ record-summed u v (storeAt s k) (e .1)
       ∙ same-totals (λ (c : ℕ). u c + total (annualTo c) (storeContributions (storeAt s k))) (λ (c : ℕ). unitsOf (annualTo c) s d)
-      (λ (c : ℕ). v c + total (peakTo c) (storeContributions (storeAt s k))) (λ (c : ℕ). unitsOf (peakTo c) s d) (λ c. omega arith) (λ c. omega arith)
+      (λ (c : ℕ). v c + total (peakTo c) (storeContributions (storeAt s k))) (λ (c : ℕ). unitsOf (peakTo c) s d) (omega arith) (omega arith)
 
 module _ (s : List ℕ) (h : AllYes (headAsks s)) where
   pub sources-short : (c : Chains) {link : ℕ} → Groups s c 0 → Stores s c link → length (sourcesOf (storesSoFar c (c .stores))) < 1024

@@ -7,4 +7,4 @@ use Rattle.listing.proofs.list.Statement.{statement}
 use Rattle.listing.proofs.list.Tie as tie
 
 pub list-spec : {M : Type 1} → statement M
-list-spec = tie.close (tie.spec (λ c. omega arith) (λ c. omega arith) (λ c. omega arith) (λ c. c .before .before .list-answer .ensures ∙ ap (λ (a : Answer). listed a (c .before .before .before .before .before .before .before .args .buffer .now)) (c .before .before .before .before .answer .ensures)))
+list-spec = tie.close (tie.spec (omega arith) (omega arith) (omega arith) (λ c. c .before .before .list-answer .ensures ∙ ap (λ (a : Answer). listed a (c .before .before .before .before .before .before .before .args .buffer .now)) (c .before .before .before .before .answer .ensures)))

@@ -37,11 +37,11 @@ list-answer-spec =
     tie.close
     (tie.spec
     returns
-    (λ c κs. omega arith)
-    (λ c κs. omega arith)
+    (omega arith)
+    (omega arith)
     returns-2
     (λ c. held (c .before .put-listing .ensures .0) (omega arith) .within)
     (λ c. held (c .before .before .put-listing .ensures .0) (omega arith) .counted)
     (λ c κs. omega (arith, held (c .before .before .before .put-listing .ensures .0) (omega arith) .counted))
-    (λ c. omega arith)
+    (omega arith)
     returns-3)

@@ -9,7 +9,7 @@ use Rattle.listing.proofs.print.Tie as tie
 pub print-spec : {M : Type 1} → statement M
 print-spec =
     tie.close
-    (tie.spec (λ c. omega arith) (λ c. omega arith)
+    (tie.spec (omega arith) (omega arith)
     (λ c.
     let p = rw (c .before .before .answer .ensures) at (c .print-answer .ensures) in
     (p, fronted (printed (answer (c .before .before .before .before .args .file .now))) _ (p .0) (p .1))))

@@ -14,7 +14,7 @@ pub print-answer-spec : {M : Type 1} → statement M
 print-answer-spec =
     tie.close
     (tie.spec
-    (λ c κs. omega arith)
+    (omega arith)
     (λ c. held (c .put-printed .ensures .0) (omega arith) .within)
     (λ c. held (c .before .put-printed .ensures .0) (omega arith) .counted)
     (λ c κs. omega (arith, held (c .before .before .put-printed .ensures .0) (omega arith) .counted))

@@ -51,11 +51,11 @@ returns-3 c =
 pub add-spec : {M : Type 1} → statement M
 add-spec =
     tie.close
-    (tie.spec returns (λ c. omega arith)
+    (tie.spec returns (omega arith)
     (λ c κs. omega (arith, c .before .if2 .taken, c .before .before .before .if1 .left))
-    (λ c. omega arith)
+    (omega arith)
     (λ c κs. omega (arith, c .before .before .before .before .if2 .taken, c .before .before .before .before .before .before .if1 .left))
-    (λ c. omega arith)
+    (omega arith)
     (λ c κs. (c .before .before .before .before .before .before .before .before .before .if1 .left, c .before .before .before .before .before .before .before .if2 .taken))
     same-length
     returns-2 returns-3)

@@ -27,4 +27,4 @@ pub add-all-spec : {M : Type 1} → statement M
 unfolding plusToIn
 add-all-spec =
     tie.close
-    (tie.spec Inv-loop μ-loop (search needs) (λ c. omega arith) (λ c. omega arith) (λ c. omega arith) (λ c. omega arith) (λ c. omega arith) loop-again (λ c. omega arith) returns)
+    (tie.spec Inv-loop μ-loop (search needs) (omega arith) (omega arith) (omega arith) (omega arith) (omega arith) loop-again (omega arith) returns)

@@ -63,6 +63,6 @@ figures-of-spec =
     tie.close
     (tie.spec Inv-loop μ-loop loop-holds
     (λ c κs. omega (arith, c .loop-test .taken, c .before .before .before .pre))
-    (λ c. omega arith) (λ c. omega arith) (λ c. omega arith)
+    (omega arith) (omega arith) (omega arith)
     (λ c κs. omega (arith, c .before .before .loop-test .taken, c .before .before .before .before .before .pre))
-    (λ c. omega arith) (λ c. omega arith) (λ c. omega arith) (λ c. omega arith) (λ c. omega arith) loop-again returns)
+    (omega arith) (omega arith) (omega arith) (omega arith) (omega arith) loop-again returns)

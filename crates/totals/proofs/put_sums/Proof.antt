@@ -23,5 +23,5 @@ slice-write-totals-4 c =
 pub put-sums-spec : {M : Type 1} → statement M
 put-sums-spec =
     tie.close
-    (tie.spec (λ c. omega arith) (λ c. omega arith) (λ c. omega arith) (λ c. omega arith) (λ c. omega arith) (λ c. omega arith) slice-write-totals-2 (λ c. omega arith) (λ c. omega arith)
-    slice-write-totals-3 (λ c. omega arith) (λ c. omega arith) (λ c. omega arith) slice-write-totals-4 (search needs) (λ c. refl))
+    (tie.spec (omega arith) (omega arith) (omega arith) (omega arith) (omega arith) (omega arith) slice-write-totals-2 (omega arith) (omega arith)
+    slice-write-totals-3 (omega arith) (omega arith) (omega arith) slice-write-totals-4 (search needs) (λ c. refl))

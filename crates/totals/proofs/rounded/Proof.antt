@@ -16,4 +16,4 @@ unfolding figuresIn
 returns-2 c = no _ _ _ _ (ne-eqb _ _ (c .if1 .left)) refl
 
 pub rounded-spec : {M : Type 1} → statement M
-rounded-spec = tie.close (tie.spec (λ c. omega arith) returns returns-2)
+rounded-spec = tie.close (tie.spec (omega arith) returns returns-2)

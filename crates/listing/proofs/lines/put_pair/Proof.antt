@@ -16,4 +16,4 @@ returns c =
 pub put-pair-spec : {M : Type 1} → statement M
 put-pair-spec =
     tie.close
-    (tie.spec (λ c κs. omega arith) (λ c κs. omega arith) (λ c κs. omega arith) (λ c κs. omega arith) returns)
+    (tie.spec (omega arith) (omega arith) (omega arith) (omega arith) returns)

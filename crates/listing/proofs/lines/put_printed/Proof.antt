@@ -11,7 +11,7 @@ unfolding printed if_then_else
 put-printed-spec =
     tie.close
     (tie.spec
-    (λ c κs. omega arith)
-    (λ c κs. omega arith)
+    (omega arith)
+    (omega arith)
     (λ c. simp (eq-eqb (c .before .before .before .before .args .a .number) 0 (c .before .before .if1 .taken)) (c .put-listing .ensures))
     (λ c. simp (ne-eqb (c .before .before .before .before .args .a .number) 0 (c .before .before .if1 .left)) (c .put-refusal .ensures)))

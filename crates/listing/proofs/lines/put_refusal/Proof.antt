@@ -13,4 +13,4 @@ returns c =
     (paired (a .number) (a .slot) (t .put-text .ensures) (c .put-pair .ensures .0), omega arith)
 
 pub put-refusal-spec : {M : Type 1} → statement M
-put-refusal-spec = tie.close (tie.spec (λ c. omega arith) (λ c κs. omega arith) (λ c κs. omega arith) returns)
+put-refusal-spec = tie.close (tie.spec (omega arith) (omega arith) (omega arith) returns)

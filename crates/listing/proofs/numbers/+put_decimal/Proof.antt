@@ -30,13 +30,13 @@ pub +put-decimal-spec : {M : Type 1} → statement M
 )
     (put-decimal-at t)
     put-decimal.Post
-    (λ c. omega arith)
-    (λ c. omega arith)
-    (λ c κs. omega arith)
-    (λ c κs. omega arith)
-    (λ c. omega arith)
-    (λ c. omega arith)
-    (λ c κs. omega arith)
+    (omega arith)
+    (omega arith)
+    (omega arith)
+    (omega arith)
+    (omega arith)
+    (omega arith)
+    (omega arith)
     (λ c. let x = c .before .before .before .args .x in (rw (decimal-less x x (c .before .before .if1 .taken)) (c .put-byte .ensures), omega arith))
     (λ c.
     let b = c .before .before .before .before in

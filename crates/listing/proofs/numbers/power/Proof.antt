@@ -23,4 +23,4 @@ returns c =
     (e, rw e (one-le-pow n 10 (lit< tt)))
 
 pub power-spec : {M : Type 1} → statement M
-power-spec = tie.close (tie.spec (λ c. omega arith) (λ c. omega arith) returns)
+power-spec = tie.close (tie.spec (omega arith) (omega arith) returns)

@@ -38,12 +38,12 @@ put-padded-spec =
     Inv-loop
     μ-loop
     loop-holds
-    (λ c. omega arith)
-    (λ c κs. omega arith)
-    (λ c. omega arith)
-    (λ c. omega arith)
-    (λ c. omega arith)
-    (λ c κs. omega arith)
-    (λ c. omega arith)
+    (omega arith)
+    (omega arith)
+    (omega arith)
+    (omega arith)
+    (omega arith)
+    (omega arith)
+    (omega arith)
     loop-again
     returns)

@@ -8,4 +8,4 @@ pub coefficients-good-spec : {M : Type 1} → statement M
 unfolding coefficientsGood
 coefficients-good-spec =
     tie.close
-    (tie.spec (λ c. omega arith) (λ c. omega arith) (λ c. rw (c .zero-from .ensures, c .before .coefficients-in-range .ensures)))
+    (tie.spec (omega arith) (omega arith) (λ c. rw (c .zero-from .ensures, c .before .coefficients-in-range .ensures)))

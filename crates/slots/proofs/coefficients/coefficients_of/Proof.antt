@@ -8,4 +8,4 @@ pub coefficients-of-spec : {M : Type 1} → statement M
 unfolding coefficientsOf
 coefficients-of-spec =
     tie.close
-    (tie.spec (λ c. omega arith) (λ c. omega arith) (λ c. omega arith) (λ c. omega arith) (λ c. omega arith) (λ c. omega arith) (λ c. omega arith) (λ c. rw (c .u32-at7 .ensures, c .before .u32-at6 .ensures, c .before .before .u32-at5 .ensures, c .before .before .before .u32-at4 .ensures, c .before .before .before .before .u32-at3 .ensures, c .before .before .before .before .before .u32-at2 .ensures, c .before .before .before .before .before .before .u32-at .ensures)))
+    (tie.spec (omega arith) (omega arith) (omega arith) (omega arith) (omega arith) (omega arith) (omega arith) (λ c. rw (c .u32-at7 .ensures, c .before .u32-at6 .ensures, c .before .before .u32-at5 .ensures, c .before .before .before .u32-at4 .ensures, c .before .before .before .before .u32-at3 .ensures, c .before .before .before .before .before .u32-at2 .ensures, c .before .before .before .before .before .before .u32-at .ensures)))

@@ -8,4 +8,4 @@ pub group-good-spec : {M : Type 1} → statement M
 unfolding groupGood
 group-good-spec =
     tie.close
-    (tie.spec (λ c. omega arith) (λ c. omega arith) (λ c. omega arith) (λ c. rw (c .zero-from .ensures, c .before .before .group-in-range .ensures)))
+    (tie.spec (omega arith) (omega arith) (omega arith) (λ c. rw (c .zero-from .ensures, c .before .before .group-in-range .ensures)))

@@ -9,4 +9,4 @@ pub read-group-spec : {M : Type 1} → statement M
 unfolding groupRead
 read-group-spec =
     tie.close
-    (tie.spec (λ c. omega arith) (search needs) (λ c. omega arith) (λ c. omega arith) (λ c. omega arith) (λ c. omega arith) (λ c. omega arith) (λ c. omega arith) (λ c. rw (c .u16-at2 .ensures, c .before .u16-at .ensures, c .before .before .number-of .ensures, c .before .before .before .group-good .ensures, c .before .before .before .before .before .group-of .ensures, c .before .before .before .before .before .before .slot-at .ensures .0)))
+    (tie.spec (omega arith) (search needs) (omega arith) (omega arith) (omega arith) (omega arith) (omega arith) (omega arith) (λ c. rw (c .u16-at2 .ensures, c .before .u16-at .ensures, c .before .before .number-of .ensures, c .before .before .before .group-good .ensures, c .before .before .before .before .before .group-of .ensures, c .before .before .before .before .before .before .slot-at .ensures .0)))

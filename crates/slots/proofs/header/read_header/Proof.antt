@@ -9,4 +9,4 @@ pub read-header-spec : {M : Type 1} → statement M
 unfolding headerOf
 read-header-spec =
     tie.close
-    (tie.spec (λ c. omega arith) (search needs) (λ c. omega arith) (λ c. omega arith) (λ c. omega arith) (λ c. omega arith) (λ c. omega arith) (λ c. omega arith) (λ c. rw (c .zero-from .ensures, c .before .temperatures-of .ensures, c .before .before .u16-at4 .ensures, c .before .before .before .u16-at3 .ensures, c .before .before .before .before .u16-at2 .ensures, c .before .before .before .before .before .u16-at .ensures, c .before .before .before .before .before .before .slot-at .ensures .0)))
+    (tie.spec (omega arith) (search needs) (omega arith) (omega arith) (omega arith) (omega arith) (omega arith) (omega arith) (λ c. rw (c .zero-from .ensures, c .before .temperatures-of .ensures, c .before .before .u16-at4 .ensures, c .before .before .before .u16-at3 .ensures, c .before .before .before .before .u16-at2 .ensures, c .before .before .before .before .before .u16-at .ensures, c .before .before .before .before .before .before .slot-at .ensures .0)))

@@ -9,4 +9,4 @@ use Rattle.slots.proofs.header.temperatures_of.Tie as tie
 
 pub temperatures-of-spec : {M : Type 1} → statement M
 unfolding temperaturesOf listTo
-temperatures-of-spec = tie.close (tie.spec (λ c. omega arith) (λ c. omega arith) (λ c. omega arith) (λ c. omega arith) (λ c. omega arith) (λ c. omega arith) (λ c. omega arith) (λ c. omega arith) (λ c. omega arith) (λ c. omega arith) (λ c. omega arith) (λ c. omega arith) (λ c. search (sfits-of, held) depth 20))
+temperatures-of-spec = tie.close (tie.spec (omega arith) (omega arith) (omega arith) (omega arith) (omega arith) (omega arith) (omega arith) (omega arith) (omega arith) (omega arith) (omega arith) (omega arith) (λ c. search (sfits-of, held) depth 20))

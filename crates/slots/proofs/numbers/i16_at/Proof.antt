@@ -17,8 +17,8 @@ pub i16-at-spec : {M : Type 1} → statement M
 unfolding i16At
 i16-at-spec =
     tie.close
-    (tie.spec (λ c. omega arith) (λ c. omega arith)
+    (tie.spec (omega arith) (omega arith)
     (λ c. low (c .if1 .taken) ∙ ap signed (c .before .u16-at .ensures))
-    (λ c. omega arith) (λ c. omega arith)
+    (omega arith) (omega arith)
     (λ c. high-fits (c .if1 .left) (omega arith))
     returns-2)

@@ -23,4 +23,4 @@ returns c = let e : c .before .loop .i ≡ c .before .before .args .n = omega ar
 
 pub zero-from-spec : {M : Type 1} → statement M
 unfolding zeroFrom
-zero-from-spec = tie.close (tie.spec Inv-loop μ-loop (search needs) (λ c. omega arith) (λ c. omega arith) (λ c. omega arith) (λ c. omega arith) loop-again returns)
+zero-from-spec = tie.close (tie.spec Inv-loop μ-loop (search needs) (omega arith) (omega arith) (omega arith) (omega arith) loop-again returns)

@@ -7,4 +7,4 @@ use Rattle.slots.proofs.slot.next_of.Statement.{statement}
 use Rattle.slots.proofs.slot.next_of.Tie as tie
 
 pub next-of-spec : {M : Type 1} → statement M
-next-of-spec = tie.close (tie.spec (λ c. omega arith) (search needs) (λ c. omega arith) (λ c. c .u16-at .ensures ∙ ap nextOf (c .before .slot-at .ensures .0)))
+next-of-spec = tie.close (tie.spec (omega arith) (search needs) (omega arith) (λ c. c .u16-at .ensures ∙ ap nextOf (c .before .slot-at .ensures .0)))

@@ -28,4 +28,4 @@ returns-2 c = let e = c .before .pre in (no _ _ _ _ (le-ltb _ _ (c .if1 .left)) 
 pub slot-at-spec : {M : Type 1} → statement M
 slot-at-spec =
     tie.close
-    (tie.spec (λ c. omega arith) (λ c. omega arith) (λ c. omega arith) (λ c. omega arith) (λ c. omega arith) (λ c. omega arith) returns returns-2)
+    (tie.spec (omega arith) (omega arith) (omega arith) (omega arith) (omega arith) (omega arith) returns returns-2)

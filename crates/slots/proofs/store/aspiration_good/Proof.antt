@@ -8,4 +8,4 @@ pub aspiration-good-spec : {M : Type 1} → statement M
 unfolding aspirationGood
 aspiration-good-spec =
     tie.close
-    (tie.spec (λ c. omega arith) (λ c. omega arith) (λ c. omega arith) (λ c. rw (c .zero-from2 .ensures, c .before .zero-from .ensures, c .before .before .aspiration-in-range .ensures)))
+    (tie.spec (omega arith) (omega arith) (omega arith) (λ c. rw (c .zero-from2 .ensures, c .before .zero-from .ensures, c .before .before .aspiration-in-range .ensures)))

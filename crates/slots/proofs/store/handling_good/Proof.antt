@@ -8,4 +8,4 @@ pub handling-good-spec : {M : Type 1} → statement M
 unfolding handlingGood
 handling-good-spec =
     tie.close
-    (tie.spec (λ c. omega arith) (λ c. omega arith) (λ c. omega arith) (λ c. omega arith) (λ c. rw (c .zero-from2 .ensures, c .before .zero-from .ensures, c .before .before .before .handling-in-range .ensures)))
+    (tie.spec (omega arith) (omega arith) (omega arith) (omega arith) (λ c. rw (c .zero-from2 .ensures, c .before .zero-from .ensures, c .before .before .before .handling-in-range .ensures)))

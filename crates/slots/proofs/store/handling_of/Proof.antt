@@ -8,4 +8,4 @@ pub handling-of-spec : {M : Type 1} → statement M
 unfolding handlingOf
 handling-of-spec =
     tie.close
-    (tie.spec (λ c. omega arith) (λ c. omega arith) (λ c. rw (c .before .bulk-of .ensures)))
+    (tie.spec (omega arith) (omega arith) (λ c. rw (c .before .bulk-of .ensures)))

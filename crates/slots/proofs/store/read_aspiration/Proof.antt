@@ -10,4 +10,4 @@ pub read-aspiration-spec : {M : Type 1} → statement M
 unfolding readBy
 read-aspiration-spec =
     tie.close
-    (tie.spec (λ c. omega arith) (λ c. omega arith) (λ c. yes _ _ _ _ (sym (rw (c .before .before .aspiration-of .ensures) at (c .before .aspiration-good .ensures)) ∙ c .if1 .taken) (rw (c .before .before .aspiration-of .ensures))) (λ c. no _ _ _ _ (sym (rw (c .before .before .aspiration-of .ensures) at (c .before .aspiration-good .ensures)) ∙ c .if1 .left) refl))
+    (tie.spec (omega arith) (omega arith) (λ c. yes _ _ _ _ (sym (rw (c .before .before .aspiration-of .ensures) at (c .before .aspiration-good .ensures)) ∙ c .if1 .taken) (rw (c .before .before .aspiration-of .ensures))) (λ c. no _ _ _ _ (sym (rw (c .before .before .aspiration-of .ensures) at (c .before .aspiration-good .ensures)) ∙ c .if1 .left) refl))

@@ -10,4 +10,4 @@ pub read-standing-spec : {M : Type 1} → statement M
 unfolding readBy
 read-standing-spec =
     tie.close
-    (tie.spec (λ c. omega arith) (λ c. omega arith) (λ c. yes _ _ _ _ (sym (rw (c .before .before .standing-of .ensures) at (c .before .standing-good .ensures)) ∙ c .if1 .taken) (rw (c .before .before .standing-of .ensures))) (λ c. no _ _ _ _ (sym (rw (c .before .before .standing-of .ensures) at (c .before .standing-good .ensures)) ∙ c .if1 .left) refl))
+    (tie.spec (omega arith) (omega arith) (λ c. yes _ _ _ _ (sym (rw (c .before .before .standing-of .ensures) at (c .before .standing-good .ensures)) ∙ c .if1 .taken) (rw (c .before .before .standing-of .ensures))) (λ c. no _ _ _ _ (sym (rw (c .before .before .standing-of .ensures) at (c .before .standing-good .ensures)) ∙ c .if1 .left) refl))

@@ -20,7 +20,7 @@ pub read-store-spec : {M : Type 1} → statement M
 unfolding readStore storeKind storeGood storeOf byKind if_then_else
 read-store-spec =
     tie.close
-    (tie.spec (λ c. omega arith) (search needs) (λ c. omega arith) (λ c. omega arith) (λ c. omega arith) (λ c. omega arith)
+    (tie.spec (omega arith) (search needs) (omega arith) (omega arith) (omega arith) (omega arith)
     (λ c. of-slot _ _ _ (c .before .before .before .slot-at .ensures .0) (simp (c .before .match .keys1) (c .read-handling .ensures)))
     (λ c. of-slot _ _ _ (c .before .before .before .slot-at .ensures .0) (simp (c .before .match .keys2) (c .read-standing .ensures)))
     (λ c. of-slot _ _ _ (c .before .before .before .slot-at .ensures .0) (simp (c .before .match .keys3) (c .read-aspiration .ensures)))

@@ -8,4 +8,4 @@ pub standing-of-spec : {M : Type 1} → statement M
 unfolding standingOf
 standing-of-spec =
     tie.close
-    (tie.spec (λ c. omega arith) (λ c. omega arith) (λ c. rw (c .u16-at .ensures, c .before .bulk-of .ensures)))
+    (tie.spec (omega arith) (omega arith) (λ c. rw (c .u16-at .ensures, c .before .bulk-of .ensures)))

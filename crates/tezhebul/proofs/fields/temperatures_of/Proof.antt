@@ -38,4 +38,4 @@ returns c =
 
 pub temperatures-of-spec : {M : Type 1} → statement M
 temperatures-of-spec =
-    tie.close (tie.spec Inv-loop μ-loop loop-holds (λ c. omega arith) (λ c. omega arith) (λ c. omega arith) (λ c. omega arith) (λ c. omega arith) (λ c. omega arith) loop-again returns)
+    tie.close (tie.spec Inv-loop μ-loop loop-holds (omega arith) (omega arith) (omega arith) (omega arith) (omega arith) (omega arith) loop-again returns)

@@ -9,4 +9,4 @@ unfolding listTo
 returns c = rw (c .before .before .before .before .before .numbers-of .ensures) at (c .before .before .give .ensures)
 
 pub give-answer-spec : {M : Type 1} → statement M
-give-answer-spec = tie.close (tie.spec (λ c. omega arith) (λ c. omega arith) (λ c. omega arith) (λ c. omega arith) returns)
+give-answer-spec = tie.close (tie.spec (omega arith) (omega arith) (omega arith) (omega arith) returns)

@@ -6,4 +6,4 @@ use Rattle.tezhebul.proofs.files.tezhebul_answer.Tie as tie
 pub tezhebul-answer-spec : {M : Type 1} → statement M
 tezhebul-answer-spec =
     tie.close
-    (tie.spec (λ c. omega arith) (λ c. omega arith) (λ c. omega arith) (λ c. rw (← c .before .before .before .before .answer .ensures) (c .before .before .give-answer .ensures)))
+    (tie.spec (omega arith) (omega arith) (omega arith) (λ c. rw (← c .before .before .before .before .answer .ensures) (c .before .before .give-answer .ensures)))

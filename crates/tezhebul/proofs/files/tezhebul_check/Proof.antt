@@ -9,4 +9,4 @@ use Rattle.tezhebul.proofs.files.tezhebul_check.Tie as tie
 pub tezhebul-check-spec : {M : Type 1} → statement M
 tezhebul-check-spec =
     tie.close
-    (tie.spec (λ c. omega arith) (λ c. omega arith) (λ c. omega arith) (λ c. omega arith) (λ c. omega arith) (λ c. ap (λ (v : Verdict). packed v) (c .before .before .check .ensures)))
+    (tie.spec (omega arith) (omega arith) (omega arith) (omega arith) (omega arith) (λ c. ap (λ (v : Verdict). packed v) (c .before .before .check .ensures)))

@@ -17,4 +17,4 @@ returns c =
     )
 
 pub tezhebul-list-spec : {M : Type 1} → statement M
-tezhebul-list-spec = tie.close (tie.spec (λ c. omega arith) (λ c. omega arith) (λ c. omega arith) (λ c. omega arith) returns)
+tezhebul-list-spec = tie.close (tie.spec (omega arith) (omega arith) (omega arith) (omega arith) returns)

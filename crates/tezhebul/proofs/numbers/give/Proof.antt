@@ -22,4 +22,4 @@ returns-2 c =
     (sym h, yes _ _ _ _ h (c .before .before .put-numbers .ensures ∙ simp zero-add at (sets-eq (s .numbers .now) (s .out .now) 0 (omega arith))))
 
 pub give-spec : {M : Type 1} → statement M
-give-spec = tie.close (tie.spec returns (λ c. omega arith) (λ c. omega arith) returns-2)
+give-spec = tie.close (tie.spec returns (omega arith) (omega arith) returns-2)

@@ -47,5 +47,5 @@ returns c =
 pub group-numbers-spec : {M : Type 1} → statement M
 group-numbers-spec =
     tie.close
-    (tie.spec Inv-loop μ-loop (λ c. omega arith) (λ c. omega arith) (λ c. omega arith) (λ c. omega arith) loop-holds (λ c. omega arith) (λ c. omega arith) (λ c. omega arith)
-    (λ c. omega arith) (λ c. omega arith) (λ c. omega arith) (λ c. omega arith) (λ c. omega arith) (λ c. omega arith) (λ c. omega arith) loop-again returns)
+    (tie.spec Inv-loop μ-loop (omega arith) (omega arith) (omega arith) (omega arith) loop-holds (omega arith) (omega arith) (omega arith)
+    (omega arith) (omega arith) (omega arith) (omega arith) (omega arith) (omega arith) (omega arith) loop-again returns)

@@ -36,4 +36,4 @@ returns c =
 pub put-numbers-spec : {M : Type 1} → statement M
 put-numbers-spec =
     tie.close
-    (tie.spec Inv-loop μ-loop loop-holds (λ c. omega arith) (λ c. omega arith) (λ c. omega arith) (λ c. omega arith) (λ c. omega arith) (λ c. omega arith) (λ c. omega arith) loop-again (λ c. omega arith) returns)
+    (tie.spec Inv-loop μ-loop loop-holds (omega arith) (omega arith) (omega arith) (omega arith) (omega arith) (omega arith) (omega arith) loop-again (omega arith) returns)

@@ -6,4 +6,4 @@ use Rattle.tezhebul.proofs.numbers.store_numbers.Tie as tie
 pub store-numbers-spec : {M : Type 1} → statement M
 store-numbers-spec =
     tie.close
-    (tie.spec (λ c. omega arith) (λ c. omega arith) (λ c. omega arith) (λ c. omega arith) (λ c. omega arith) (λ c. omega arith) (λ c. omega arith) (λ c. omega arith) (λ c. rw (c .before .before .emission-numbers .ensures)))
+    (tie.spec (omega arith) (omega arith) (omega arith) (omega arith) (omega arith) (omega arith) (omega arith) (omega arith) (λ c. rw (c .before .before .emission-numbers .ensures)))

@@ -13,4 +13,4 @@ returns c =
     (rw e at (g .0), rw (b .group-numbers .ensures) at (g .1))
 
 pub give-group-spec : {M : Type 1} → statement M
-give-group-spec = tie.close (tie.spec (λ c. omega arith) (λ c. omega arith) (λ c. omega arith) (λ c. omega arith) returns)
+give-group-spec = tie.close (tie.spec (omega arith) (omega arith) (omega arith) (omega arith) returns)

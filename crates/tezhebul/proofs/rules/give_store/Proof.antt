@@ -6,5 +6,5 @@ use Rattle.tezhebul.proofs.rules.give_store.Tie as tie
 pub give-store-spec : {M : Type 1} → statement M
 give-store-spec =
     tie.close
-    (tie.spec (λ c. omega arith) (λ c. omega arith) (λ c. omega arith) (λ c. omega arith)
+    (tie.spec (omega arith) (omega arith) (omega arith) (omega arith)
     (λ c. rw (c .before .before .before .before .before .store-numbers .ensures) at (c .before .before .give .ensures)))

@@ -10,6 +10,6 @@ pub group-answer-spec : {M : Type 1} → statement M
 unfolding flagged
 group-answer-spec =
     tie.close
-    (tie.spec (λ c. omega arith) (λ c. omega arith)
+    (tie.spec (omega arith) (omega arith)
     (λ c. yes _ _ _ _ (le-leb _ _ (c .before .if1 .taken)) (c .group-emissions .ensures))
     (λ c. no _ _ _ _ (lt-leb _ _ (c .before .if1 .left)) (c .refusal .ensures)))

@@ -43,4 +43,4 @@ returns-2 c = rw (← c .before .right-lengths .ensures, c .if1 .left) (refl, re
 pub tezhebul-group-spec : {M : Type 1} → statement M
 tezhebul-group-spec =
     tie.close
-    (tie.spec (λ c. omega arith) group-of-requires temperatures-of-requires rows-of-requires (λ c. omega arith) (λ c. omega arith) (λ c. omega arith) returns returns-2)
+    (tie.spec (omega arith) group-of-requires temperatures-of-requires rows-of-requires (omega arith) (omega arith) (omega arith) returns returns-2)

@@ -103,6 +103,6 @@ activity-of-spec =
     (tie.spec Inv-loop μ-loop
     (λ c κs. c .before .pre)
     (λ c κs. let s = c .before .before in ranged (s .args .g) (s .pre) .idle)
-    loop-holds (λ c. omega arith) (λ c. omega arith) (λ c. omega arith) (λ c. omega arith) (λ c. omega arith) (λ c. omega arith) plus-requires (λ c. omega arith) (λ c. omega arith)
-    (λ c. omega arith) (λ c. omega arith) plus-requires-2 (λ c. omega arith) (λ c. omega arith) plus-requires-3 (λ c. omega arith) (λ c. omega arith)
+    loop-holds (omega arith) (omega arith) (omega arith) (omega arith) (omega arith) (omega arith) plus-requires (omega arith) (omega arith)
+    (omega arith) (omega arith) plus-requires-2 (omega arith) (omega arith) plus-requires-3 (omega arith) (omega arith)
     loop-again returns)

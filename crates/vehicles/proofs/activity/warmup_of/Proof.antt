@@ -9,7 +9,7 @@ pub warmup-of-spec : {M : Type 1} → statement M
 unfolding sumTo
 warmup-of-spec =
     tie.close
-    (tie.spec (λ c. omega arith) (λ c. omega arith) (λ c. omega arith) (λ c. omega arith) (λ c. omega arith) (λ c. omega arith) (λ c. omega arith) (λ c. omega arith) (λ c. omega arith)
+    (tie.spec (omega arith) (omega arith) (omega arith) (omega arith) (omega arith) (omega arith) (omega arith) (omega arith) (omega arith)
     (λ c κs.
     let b = c .before .before .before .before .before .before .before .before .before .before .before in
     rw (c .over3 .ensures, c .before .before .before .over2 .ensures, c .before .before .before .before .before .before .over .ensures)

@@ -13,7 +13,7 @@ pub control-of-spec : {M : Type 1} → statement M
 unfolding controlOf partsOf
 control-of-spec =
     tie.close
-    (tie.spec (λ c. omega arith) (λ c. omega arith) (λ c. omega arith) (λ c. omega arith)
+    (tie.spec (omega arith) (omega arith) (omega arith) (omega arith)
     (λ c.
     c .wide8 .ensures .0 ∙ scaled-at 100 petrolControl (c .before .before .before .before .args .place)
     ∙ ap (partsOf 100) (yes _ _ _ _ (c .before .before .before .if1 .taken) (yes _ _ _ _ (eq-eqb _ 1 (c .before .if2 .taken)) refl)))

@@ -7,4 +7,4 @@ use Rattle.vehicles.proofs.group.all_zero.Tie as tie
 
 pub all-zero-spec : {M : Type 1} → statement M
 unfolding allZero
-all-zero-spec = tie.close (tie.spec (λ c. omega arith) (λ c. omega arith) (λ c. omega arith) (λ c. omega arith) (λ c. omega arith) (λ c. omega arith) (λ c. refl))
+all-zero-spec = tie.close (tie.spec (omega arith) (omega arith) (omega arith) (omega arith) (omega arith) (omega arith) (λ c. refl))

@@ -7,4 +7,4 @@ use Rattle.vehicles.proofs.group.coefficients_in_range.Tie as tie
 
 pub coefficients-in-range-spec : {M : Type 1} → statement M
 unfolding coefficientsInRange
-coefficients-in-range-spec = tie.close (tie.spec (λ c. omega arith) (λ c. omega arith) (λ c. omega arith) (λ c. omega arith) (λ c. omega arith) (λ c. omega arith) (λ c. refl))
+coefficients-in-range-spec = tie.close (tie.spec (omega arith) (omega arith) (omega arith) (omega arith) (omega arith) (omega arith) (λ c. refl))

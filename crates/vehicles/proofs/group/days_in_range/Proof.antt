@@ -8,4 +8,4 @@ use Rattle.vehicles.proofs.group.days_in_range.Tie as tie
 
 pub days-in-range-spec : {M : Type 1} → statement M
 unfolding daysInRange allTo
-days-in-range-spec = tie.close (tie.spec (λ c. omega arith) (λ c. omega arith) (λ c. omega arith) (λ c. omega arith) (λ c. omega arith) (λ c. omega arith) (λ c. omega arith) (λ c. omega arith) (λ c. omega arith) (λ c. omega arith) (λ c. omega arith) (λ c. omega arith) (λ c. refl))
+days-in-range-spec = tie.close (tie.spec (omega arith) (omega arith) (omega arith) (omega arith) (omega arith) (omega arith) (omega arith) (omega arith) (omega arith) (omega arith) (omega arith) (omega arith) (λ c. refl))

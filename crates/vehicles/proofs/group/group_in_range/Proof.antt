@@ -8,5 +8,5 @@ pub group-in-range-spec : {M : Type 1} → statement M
 unfolding groupInRange
 group-in-range-spec =
     tie.close
-    (tie.spec (λ c. omega arith) (λ c. omega arith) (λ c. omega arith)
+    (tie.spec (omega arith) (omega arith) (omega arith)
     (λ c. rw (c .before .before .distances-in-range .ensures, c .before .distances-in-range2 .ensures, c .days-in-range .ensures)))

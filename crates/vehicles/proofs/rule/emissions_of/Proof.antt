@@ -66,5 +66,5 @@ returns c =
 pub emissions-of-spec : {M : Type 1} → statement M
 emissions-of-spec =
     tie.close
-    (tie.spec Inv-loop μ-loop (λ c κs. c .pre .0) (search needs) (search needs) (search needs) loop-holds (λ c. omega arith) (λ c. omega arith) emission-of-requires
-    (λ c. omega arith) (λ c. omega arith) (λ c. omega arith) (λ c. omega arith) loop-again returns)
+    (tie.spec Inv-loop μ-loop (λ c κs. c .pre .0) (search needs) (search needs) (search needs) loop-holds (omega arith) (omega arith) emission-of-requires
+    (omega arith) (omega arith) (omega arith) (omega arith) loop-again returns)

@@ -42,4 +42,4 @@ returns c = let e : c .before .loop .i ≡ 12 = omega arith in rw e at (c .befor
 pub temperatures-in-range-spec : {M : Type 1} → statement M
 temperatures-in-range-spec =
     tie.close
-    (tie.spec Inv-loop μ-loop loop-holds (λ c. omega arith) (λ c. omega arith) (λ c. omega arith) (λ c. omega arith) (λ c. omega arith) loop-again returns)
+    (tie.spec Inv-loop μ-loop loop-holds (omega arith) (omega arith) (omega arith) (omega arith) (omega arith) loop-again returns)

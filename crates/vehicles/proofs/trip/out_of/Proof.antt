@@ -35,6 +35,6 @@ returns c =
 pub out-of-spec : {M : Type 1} → statement M
 out-of-spec =
     tie.close
-    (tie.spec (λ c. omega arith) (λ c. omega arith) (λ c. omega arith) (λ c. omega arith) (λ c. omega arith)
+    (tie.spec (omega arith) (omega arith) (omega arith) (omega arith) (omega arith)
     (λ c κs. let b = c .before .before .before .before .before .before .before .before .before .before in ranged (b .args .g) (b .pre .0) .outward)
-    (λ c. omega arith) (λ c. omega arith) mass-of-requires returns)
+    (omega arith) (omega arith) mass-of-requires returns)

@@ -12,4 +12,4 @@ more-spec =
     (tie.spec
     (λ c. let n : c .args .n ≤ 255 = omega arith in fits-below tt (n ⊗ c .pre .1))
     (λ c. let n : c .args .n ≤ 255 = omega arith in omega (arith, n ⊗ c .pre .1))
-    (λ c. omega arith))
+    (omega arith))

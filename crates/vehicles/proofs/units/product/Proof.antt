@@ -14,4 +14,4 @@ product-spec =
     let p : c .args .a ≤ 4294967295 = omega arith in
     let q : c .args .b ≤ 4294967295 = omega arith in
     fits-below tt (mul-le-mul p q))
-    (λ c. omega arith))
+    (omega arith))

@@ -10,7 +10,7 @@ pub conditions-at-spec : {M : Type 1} → statement M
 unfolding conditionsAt
 conditions-at-spec =
     tie.close
-    (tie.spec (λ c. omega arith) (λ c. omega arith) (λ c. omega arith)
+    (tie.spec (omega arith) (omega arith) (omega arith)
     (λ c.
     let s = c .before .before .before in
     let t = toZ-ofZ (s .fits .t) in

@@ -12,7 +12,7 @@ pub minutes-at-spec : {M : Type 1} → statement M
 unfolding minutesAt partsOf
 minutes-at-spec =
     tie.close
-    (tie.spec (λ c. omega arith)
+    (tie.spec (omega arith)
     (λ c. ap (partsOf 10) (yes _ _ _ _ (c .if1 .taken) refl))
     (λ c.
     (simp (toZ-ofZ (c .before .before .fits .t)) at (c .table-minutes .ensures)) ∙ ap (partsOf 10) (no _ _ _ _ (c .before .if1 .left) refl)))

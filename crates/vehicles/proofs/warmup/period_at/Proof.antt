@@ -11,6 +11,6 @@ pub period-at-spec : {M : Type 1} → statement M
 unfolding periodAt
 period-at-spec =
     tie.close
-    (tie.spec (λ c. omega arith)
+    (tie.spec (omega arith)
     (λ c. yes _ _ _ _ (c .if1 .taken) refl)
     (λ c. no _ _ _ _ (c .before .if1 .left) (simp (toZ-ofZ (c .before .before .fits .t)) at (c .period .ensures .0))))

@@ -14,7 +14,7 @@ pub table-minutes-spec : {M : Type 1} → statement M
 unfolding tableMinutes partsOf
 table-minutes-spec =
     tie.close
-    (tie.spec (λ c. omega arith) (λ c. omega arith) (λ c. omega arith) (λ c. omega arith) (λ c. omega arith)
+    (tie.spec (omega arith) (omega arith) (omega arith) (omega arith) (omega arith)
     (λ c.
     let e = simp (toZ-ofZ (c .before .before .fits .t)) at (c .before .warmup-band .ensures .0) in
     rw e (scaled-at 10 carMinutes (warmupBand (c .before .before .args .t))) ∙ ap (partsOf 10) (yes _ _ _ _ (eq-eqb _ 1 (c .if1 .taken)) refl))

@@ -37,4 +37,4 @@ returns-2 c =
 pub answer-spec : {M : Type 1} → statement M
 answer-spec =
     tie.close
-    (tie.spec (λ c. omega arith) (λ c. omega arith) (λ c κs. c .before .none .ensures) (λ c. omega arith) returns (λ c. omega arith) (λ c. omega arith) returns-2)
+    (tie.spec (omega arith) (omega arith) (λ c κs. c .before .none .ensures) (omega arith) returns (omega arith) (omega arith) returns-2)

@@ -19,4 +19,4 @@ returns-2 c =
     c .accept .ensures ∙ sym (ap (λ (x : Verdict). told x) (only _ (accepted (a .c)) (a .accepts)))
 
 pub check-spec : {M : Type 1} → statement M
-check-spec = tie.close (tie.spec (λ c. omega arith) (λ c. omega arith) (λ c κs. c .before .none .ensures) returns (λ c. omega arith) returns-2)
+check-spec = tie.close (tie.spec (omega arith) (omega arith) (λ c κs. c .before .none .ensures) returns (omega arith) returns-2)

@@ -60,5 +60,5 @@ returns-4 c =
 pub walk-file-spec : {M : Type 1} → statement M
 walk-file-spec =
     tie.close
-    (tie.spec (λ c. omega arith) (λ c κs. c .read-header .ensures) returns (λ c. omega arith) (λ c. omega arith) walk-groups-requires (λ c. omega arith) returns-2
-    walk-stores-requires (λ c. omega arith) returns-3 ask-reached-requires (λ c. omega arith) returns-4)
+    (tie.spec (omega arith) (λ c κs. c .read-header .ensures) returns (omega arith) (omega arith) walk-groups-requires (omega arith) returns-2
+    walk-stores-requires (omega arith) returns-3 ask-reached-requires (omega arith) returns-4)

@@ -22,4 +22,4 @@ unfolding plusGroup
 returns-2 c = no _ _ _ _ (c .if1 .left) refl
 
 pub add-group-spec : {M : Type 1} → statement M
-add-group-spec = tie.close (tie.spec (λ c. omega arith) (λ c. omega arith) (λ c. omega arith) returns returns-2)
+add-group-spec = tie.close (tie.spec (omega arith) (omega arith) (omega arith) returns returns-2)

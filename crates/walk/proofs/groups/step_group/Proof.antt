@@ -60,4 +60,4 @@ returns-2 c =
 pub step-group-spec : {M : Type 1} → statement M
 step-group-spec =
     tie.close
-    (tie.spec (λ c. omega arith) (λ c. omega arith) (λ c. omega arith) returns element-write-sources element-write-reached read-rows-requires (λ c. omega arith) returns-2)
+    (tie.spec (omega arith) (omega arith) (omega arith) returns element-write-sources element-write-reached read-rows-requires (omega arith) returns-2)

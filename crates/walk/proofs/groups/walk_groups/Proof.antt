@@ -96,4 +96,4 @@ returns-2 c =
 pub walk-groups-spec : {M : Type 1} → statement M
 walk-groups-spec =
     tie.close
-    (tie.spec Inv-loop μ-loop loop-holds step-group-requires same-length returns (λ c. omega arith) add-count loop-less loop-again (λ c. omega arith) same-length-2 returns-2)
+    (tie.spec Inv-loop μ-loop loop-holds step-group-requires same-length returns (omega arith) add-count loop-less loop-again (omega arith) same-length-2 returns-2)

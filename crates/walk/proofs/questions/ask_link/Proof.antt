@@ -95,4 +95,4 @@ returns-5 c =
 pub ask-link-spec : {M : Type 1} → statement M
 ask-link-spec =
     tie.close
-    (tie.spec (λ c. omega arith) returns (λ c. omega arith) (λ c. omega arith) returns-2 (λ c. omega arith) returns-3 (λ c. omega arith) returns-4 (λ c. omega arith) returns-5)
+    (tie.spec (omega arith) returns (omega arith) (omega arith) returns-2 (omega arith) returns-3 (omega arith) returns-4 (omega arith) returns-5)

@@ -49,4 +49,4 @@ returns-2 c l m =
     told-yes (c .accept .ensures) (b .loop .inv .1 l m .all (rw e tt))
 
 pub ask-reached-spec : {M : Type 1} → statement M
-ask-reached-spec = tie.close (tie.spec Inv-loop μ-loop loop-holds (λ c. omega arith) (λ c. omega arith) (λ c. omega arith) returns (λ c. omega arith) (λ c. omega arith) loop-again (λ c. omega arith) returns-2)
+ask-reached-spec = tie.close (tie.spec Inv-loop μ-loop loop-holds (omega arith) (omega arith) (omega arith) returns (omega arith) (omega arith) loop-again (omega arith) returns-2)

@@ -95,5 +95,5 @@ returns-6 c g h k w =
 pub ask-row-spec : {M : Type 1} → statement M
 ask-row-spec =
     tie.close
-    (tie.spec (λ c. omega arith) returns (λ c. omega arith) returns-2 (λ c. omega arith) returns-3 (λ c. omega arith) returns-4 (λ c. omega arith) (λ c. omega arith) (λ c. omega arith)
-    returns-5 (λ c. omega arith) returns-6)
+    (tie.spec (omega arith) returns (omega arith) returns-2 (omega arith) returns-3 (omega arith) returns-4 (omega arith) (omega arith) (omega arith)
+    returns-5 (omega arith) returns-6)

@@ -27,4 +27,4 @@ returns-3 c =
     }
 
 pub ask-soot-and-lead-spec : {M : Type 1} → statement M
-ask-soot-and-lead-spec = tie.close (tie.spec returns (λ c. omega arith) (λ c. omega arith) returns-2 returns-3)
+ask-soot-and-lead-spec = tie.close (tie.spec returns (omega arith) (omega arith) returns-2 returns-3)

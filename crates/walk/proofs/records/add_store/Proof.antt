@@ -19,4 +19,4 @@ unfolding plusStore
 returns-2 c = no _ _ _ _ (c .if1 .left) refl
 
 pub add-store-spec : {M : Type 1} → statement M
-add-store-spec = tie.close (tie.spec (λ c. omega arith) (λ c. omega arith) (λ c. omega arith) returns returns-2)
+add-store-spec = tie.close (tie.spec (omega arith) (omega arith) (omega arith) returns returns-2)

@@ -10,7 +10,7 @@ pub record-emission-spec : {M : Type 1} → statement M
 unfolding recordEmission
 record-emission-spec =
     tie.close
-    (tie.spec (λ c. omega arith) (λ c. omega arith) (λ c. omega arith) (λ c. omega arith) (λ c. omega arith) (λ c. omega arith)
+    (tie.spec (omega arith) (omega arith) (omega arith) (omega arith) (omega arith) (omega arith)
     (λ c. ap (λ (a : StoreAnswer). a .emission) (c .before .handling-emission .ensures) ∙ ap recordEmission (sym (c .before .before .before .store .given .1)))
     (λ c. ap (λ (a : StoreAnswer). a .emission) (c .before .standing-emission .ensures) ∙ ap recordEmission (sym (c .before .before .before .store2 .given .1)))
     (λ c. ap (λ (a : StoreAnswer). a .emission) (c .before .aspiration-emission .ensures) ∙ ap recordEmission (sym (c .before .before .before .store3 .given .1))))

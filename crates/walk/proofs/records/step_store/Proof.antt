@@ -40,4 +40,4 @@ returns-2 c =
 pub step-store-spec : {M : Type 1} → statement M
 step-store-spec =
     tie.close
-    (tie.spec (λ c. omega arith) (λ c. omega arith) (λ c. omega arith) returns element-write-sources element-write-reached (λ c. omega arith) returns-2)
+    (tie.spec (omega arith) (omega arith) (omega arith) returns element-write-sources element-write-reached (omega arith) returns-2)

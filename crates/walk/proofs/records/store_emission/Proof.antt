@@ -9,7 +9,7 @@ pub store-emission-spec : {M : Type 1} → statement M
 unfolding storeEmission
 store-emission-spec =
     tie.close
-    (tie.spec (λ c. omega arith) (λ c. omega arith) (λ c. omega arith) (λ c. omega arith) (λ c. omega arith) (λ c. omega arith)
+    (tie.spec (omega arith) (omega arith) (omega arith) (omega arith) (omega arith) (omega arith)
     (λ c. c .record-emission .ensures ∙ ap storeEmission (sym (c .before .before .read .given .1)))
     (λ c. c .none .ensures ∙ ap storeEmission (sym (c .before .enum-told .given .1)))
     (λ c. c .none2 .ensures ∙ ap storeEmission (sym (c .before .enum-told2 .given .1))))

@@ -82,4 +82,4 @@ returns-2 c =
 pub walk-stores-spec : {M : Type 1} → statement M
 walk-stores-spec =
     tie.close
-    (tie.spec Inv-loop μ-loop loop-holds step-store-requires same-length returns (λ c. omega arith) add-count loop-less loop-again (λ c. omega arith) same-length-2 returns-2)
+    (tie.spec Inv-loop μ-loop loop-holds step-store-requires same-length returns (omega arith) add-count loop-less loop-again (omega arith) same-length-2 returns-2)

@@ -114,5 +114,5 @@ returns-3 c =
 pub read-rows-spec : {M : Type 1} → statement M
 read-rows-spec =
     tie.close
-    (tie.spec Inv-loop μ-loop (λ c. omega arith) loop-holds (λ c. omega arith) (λ c. omega arith) returns (λ c. omega arith) (λ c. omega arith) (λ c. omega arith) (λ c. omega arith)
-    element-write-reached (λ c. omega arith) (λ c. omega arith) loop-again (λ c. omega arith) returns-2 (λ c. omega arith) returns-3)
+    (tie.spec Inv-loop μ-loop (omega arith) loop-holds (omega arith) (omega arith) returns (omega arith) (omega arith) (omega arith) (omega arith)
+    element-write-reached (omega arith) (omega arith) loop-again (omega arith) returns-2 (omega arith) returns-3)
