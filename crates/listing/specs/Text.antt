@@ -12,6 +12,10 @@ pub record Added (before : List ℕ) (at : ℕ) (after : List ℕ) (r : ℕ) (by
   pub stored : after ≡ sets before at bytes
   pub next : r ≡ at + length bytes
 
+-- the bytes of a code's line at most: four digits, two numbers of 20 digits with a point each, two spaces and a line feed
+abbrev pub lineMost : ℕ
+lineMost = 49
+
 -- two numbers parted by a space, and a line feed
 abbrev pub pair : ℕ → ℕ → List ℕ
 pair x y = decimal x ++ text " " ++ decimal y ++ text "\n"

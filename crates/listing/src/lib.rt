@@ -10,6 +10,10 @@ ghost use Prim.Native.Nat.{_≤_};
 ghost use Rattle.slot_file.specs.Figures.{answer};
 ghost use Rattle.slot_file.specs.Listing.{printed, listed};
 use slot_file::Answer;
+use slot_file::COUNT;
+
+// Room for any listing: the longest has 526 bytes.
+pub const LISTING_ROOM: usize = 64 * COUNT;
 
 // What a listing into a lent buffer answers: the answer itself, or refusal 13, and how many bytes were written.
 pub struct Listing {
@@ -27,7 +31,7 @@ fn list_answer(a: Answer, buffer: &mut [u8]) -> Listing
             length: 0,
         };
     }
-    let mut text = [0; 640];
+    let mut text = [0; LISTING_ROOM];
     let length = lines::put_listing(&mut text, a);
     if buffer.len() < length {
         return Listing {
@@ -40,10 +44,10 @@ fn list_answer(a: Answer, buffer: &mut [u8]) -> Listing
 }
 
 // What the program prints: the listing, or the refusal line.
-fn print_answer(a: Answer, out: &mut [u8; 640]) -> usize
+fn print_answer(a: Answer, out: &mut [u8; LISTING_ROOM]) -> usize
     ensures { λ r. ⌜ (r ≡ length (printed a)) × (now (out .exit) ≡ printed a ++ drop r (now (out .entry))) ⌝ }
 {
-    let mut text = [0; 640];
+    let mut text = [0; LISTING_ROOM];
     let length = lines::put_printed(&mut text, a);
     bytes::copy(&text[..length], out);
     length
@@ -57,7 +61,7 @@ pub fn list(file: &[u8], buffer: &mut [u8]) -> Listing
 }
 
 // What the program prints of a file: its listing, or its refusal line. The second promise follows from the first; whoever writes the bytes out wants it.
-pub fn print(file: &[u8], out: &mut [u8; 640]) -> usize
+pub fn print(file: &[u8], out: &mut [u8; LISTING_ROOM]) -> usize
     ensures { λ r. ⌜ (r ≡ length (printed (answer (now (file .entry))))) × (now (out .exit) ≡ printed (answer (now (file .entry))) ++ drop r (now (out .entry))) ⌝ }
     ensures { λ r. ⌜ (r ≤ length (now (out .exit))) × (r ≡ length (take r (now (out .exit)))) ⌝ }
 {

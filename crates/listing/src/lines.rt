@@ -1,18 +1,18 @@
 // The lines of the listing, and the refusal line.
-ghost use Prim.Native.Nat.{_+_, _<_, _≤_};
-ghost use Rattle.slot_file.specs.Figures.{codes};
-ghost use Rattle.slot_file.specs.Listing.{line, lines, listing, refusalLine, printed};
-ghost use Rattle.listing.specs.Text.{Added, pair};
+ghost use Prim.Native.Nat.{_+_, _*_, _≤_};
+ghost use Rattle.slot_file.specs.Codes.{codes, codeCount};
+ghost use Rattle.slot_file.specs.Listing.{line, lines, listing, listingRoom, refusalLine, printed};
+ghost use Rattle.listing.specs.Text.{Added, pair, lineMost};
+use super::LISTING_ROOM;
 use super::numbers;
 use super::text;
 use slot_file::Answer;
+use slot_file::COUNT;
 
-const CODES: [u64; 10] = [152, 184, 301, 328, 330, 337, 2704, 2754, 2908, 2909];
-
-// Code, tonnes, grams per second.
-fn put_line(out: &mut [u8; 640], from: usize, code: u64, annual: u64, peak: u64) -> usize
-    requires { ⌜ from < 570 ⌝ }
-    ensures { λ r. ⌜ Added (now (out .entry)) from (now (out .exit)) r (line code annual peak) × (r ≤ from + 49) ⌝ }
+// Code, tonnes, grams per second. There is room for one line more: a part does not count on the parts before it to be short.
+fn put_line(out: &mut [u8; LISTING_ROOM], from: usize, code: u64, annual: u64, peak: u64) -> usize
+    requires { ⌜ from + 2 * lineMost ≤ listingRoom ⌝ }
+    ensures { λ r. ⌜ Added (now (out .entry)) from (now (out .exit)) r (line code annual peak) × (r ≤ from + lineMost) ⌝ }
 {
     let at = numbers::put_padded(out, from, code, 4);
     let at = text::put_byte(out, at, b' ');
@@ -23,22 +23,23 @@ fn put_line(out: &mut [u8; 640], from: usize, code: u64, annual: u64, peak: u64)
 }
 
 // A line for each code.
-fn put_lines(out: &mut [u8; 640], from: usize, a: Answer) -> usize
-    requires { ⌜ from < 100 ⌝ }
-    ensures { λ r. ⌜ Added (now (out .entry)) from (now (out .exit)) r (lines codes (a .annual) (a .peak)) × (r ≤ from + 490) ⌝ }
+fn put_lines(out: &mut [u8; LISTING_ROOM], from: usize, a: Answer) -> usize
+    requires { ⌜ from + (codeCount + 1) * lineMost ≤ listingRoom ⌝ }
+    ensures { λ r. ⌜ Added (now (out .entry)) from (now (out .exit)) r (lines codes (a .annual) (a .peak)) × (r ≤ from + codeCount * lineMost) ⌝ }
 {
     let mut at = from;
     let mut i = 0;
-    while i < 10 {
-        at = put_line(out, at, CODES[i], a.annual[i], a.peak[i]);
+    while i < COUNT {
+        let code = slot_file::code_at(i) as u64;
+        at = put_line(out, at, code, a.annual[i], a.peak[i]);
         i += 1;
     }
     at
 }
 
 // Two numbers parted by a space, and a line feed.
-fn put_pair(out: &mut [u8; 640], from: usize, x: u64, y: u64) -> usize
-    requires { ⌜ from < 590 ⌝ }
+fn put_pair(out: &mut [u8; LISTING_ROOM], from: usize, x: u64, y: u64) -> usize
+    requires { ⌜ from + 42 ≤ listingRoom ⌝ }
     ensures { λ r. ⌜ Added (now (out .entry)) from (now (out .exit)) r (pair x y) × (r ≤ from + 42) ⌝ }
 {
     let at = numbers::put_decimal(out, from, x);
@@ -47,25 +48,25 @@ fn put_pair(out: &mut [u8; 640], from: usize, x: u64, y: u64) -> usize
     text::put_byte(out, at, b'\n')
 }
 
-pub(crate) fn put_listing(out: &mut [u8; 640], a: Answer) -> usize
-    ensures { λ r. ⌜ Added (now (out .entry)) 0 (now (out .exit)) r (listing a) × (r ≤ 640) ⌝ }
+pub(crate) fn put_listing(out: &mut [u8; LISTING_ROOM], a: Answer) -> usize
+    ensures { λ r. ⌜ Added (now (out .entry)) 0 (now (out .exit)) r (listing a) × (r ≤ listingRoom) ⌝ }
 {
     let at = text::put_text(out, 0, b"code t/year g/s\n");
     let at = put_lines(out, at, a);
     let at = text::put_text(out, at, b"sources ");
-    put_pair(out, at, a.groups as u64, a.stores as u64)
+    put_pair(out, at, a.counts.groups as u64, a.counts.stores as u64)
 }
 
-fn put_refusal(out: &mut [u8; 640], number: u8, slot: u16) -> usize
-    ensures { λ r. ⌜ Added (now (out .entry)) 0 (now (out .exit)) r (refusalLine number slot) × (r ≤ 640) ⌝ }
+fn put_refusal(out: &mut [u8; LISTING_ROOM], number: u8, slot: u16) -> usize
+    ensures { λ r. ⌜ Added (now (out .entry)) 0 (now (out .exit)) r (refusalLine number slot) × (r ≤ listingRoom) ⌝ }
 {
     let at = text::put_text(out, 0, b"refused ");
     put_pair(out, at, number as u64, slot as u64)
 }
 
 // The listing, or the refusal line.
-pub(crate) fn put_printed(out: &mut [u8; 640], a: Answer) -> usize
-    ensures { λ r. ⌜ Added (now (out .entry)) 0 (now (out .exit)) r (printed a) × (r ≤ 640) ⌝ }
+pub(crate) fn put_printed(out: &mut [u8; LISTING_ROOM], a: Answer) -> usize
+    ensures { λ r. ⌜ Added (now (out .entry)) 0 (now (out .exit)) r (printed a) × (r ≤ listingRoom) ⌝ }
 {
     if a.number == 0 {
         put_listing(out, a)

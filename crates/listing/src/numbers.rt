@@ -1,8 +1,9 @@
 // Numbers in decimal into a lent array.
 ghost use mathlib.Core.Path.{_≡_};
 ghost use Prim.Native.Nat.{_+_, _^_, _<_, _≤_};
-ghost use Rattle.slot_file.specs.Listing.{decimal, padded, fixed};
+ghost use Rattle.slot_file.specs.Listing.{listingRoom, decimal, padded, fixed};
 ghost use Rattle.listing.specs.Text.{Added};
+use super::LISTING_ROOM;
 use super::text;
 
 const POWERS: [u64; 8] = [1, 10, 100, 1_000, 10_000, 100_000, 1_000_000, 10_000_000];
@@ -15,8 +16,8 @@ fn power(n: usize) -> u64
 }
 
 // With no leading zeros.
-pub(crate) fn put_decimal(out: &mut [u8; 640], at: usize, x: u64) -> usize
-    requires { ⌜ at < 620 ⌝ }
+pub(crate) fn put_decimal(out: &mut [u8; LISTING_ROOM], at: usize, x: u64) -> usize
+    requires { ⌜ at + 20 < listingRoom ⌝ }
     ensures { λ r. ⌜ Added (now (out .entry)) at (now (out .exit)) r (decimal x) × (r ≤ at + 20) ⌝ }
 {
     if x < 10 {
@@ -28,8 +29,8 @@ pub(crate) fn put_decimal(out: &mut [u8; 640], at: usize, x: u64) -> usize
 }
 
 // The last n digits of x, zeros in front too.
-pub(crate) fn put_padded(out: &mut [u8; 640], from: usize, x: u64, n: usize) -> usize
-    requires { ⌜ (n < 9) × (from + n ≤ 640) ⌝ }
+pub(crate) fn put_padded(out: &mut [u8; LISTING_ROOM], from: usize, x: u64, n: usize) -> usize
+    requires { ⌜ (n < 9) × (from + n ≤ listingRoom) ⌝ }
     ensures { λ r. ⌜ Added (now (out .entry)) from (now (out .exit)) r (padded n x) × (r ≡ from + n) ⌝ }
 {
     let mut at = from;
@@ -43,8 +44,8 @@ pub(crate) fn put_padded(out: &mut [u8; 640], from: usize, x: u64, n: usize) -> 
 }
 
 // x units of the last of n decimals.
-pub(crate) fn put_fixed(out: &mut [u8; 640], at: usize, x: u64, n: usize) -> usize
-    requires { ⌜ (n < 8) × (at < 612) ⌝ }
+pub(crate) fn put_fixed(out: &mut [u8; LISTING_ROOM], at: usize, x: u64, n: usize) -> usize
+    requires { ⌜ (n < 8) × (at + 21 + n ≤ listingRoom) ⌝ }
     ensures { λ r. ⌜ Added (now (out .entry)) at (now (out .exit)) r (fixed n x) × (r ≤ at + 21) ⌝ }
 {
     let point = put_decimal(out, at, x / power(n));

@@ -14,7 +14,8 @@ use Rattle.slots.specs.declared.store.Store.{Store}
 use Rattle.slot_file.specs.Questions.{accepted}
 use Rattle.slot_file.specs.Walk.{verdict}
 use Rattle.slot_file.specs.Sources.{VehicleGroup, Chains, Inventory, inventoryAt}
-use Rattle.slot_file.specs.Figures.{groupContributions, storeContributions, contributions, exactSum, annualFigure, peakFigure, codes, summed, answered, answer}
+use Rattle.slot_file.specs.Figures.{groupContributions, storeContributions, contributions, exactSum, annualFigure, peakFigure, summed, answered, answer}
+use Rattle.slot_file.specs.Codes.{codes}
 use Rattle.slot_file.specs.Alike.{total, sameGroup, sameStore, AlikeFiles}
 use Rattle.slot_file.proofs.Bag.{alike-total, alike-length}
 use Rattle.slot_file.proofs.Same.{group-sound, group-same, store-sound, store-same}
@@ -47,7 +48,7 @@ module _ (v w : Inventory) (e : AlikeFiles v w) where
       let p = figure-alike (λ (x : Contribution). x .rate) gramParts (lit< tt) (λ (x : Contribution) (h : Units x). h .peak) 10000000 in
       let n = alike-length sameGroup group-sound group-same (v .groups) (w .groups) (e .groups) in
       let m = alike-length sameStore store-sound store-same (v .stores) (w .stores) (e .stores) in
-      λ i. record { number = 0; slot = 0; annual = map (λ (c : ℕ). a c i) codes; peak = map (λ (c : ℕ). p c i) codes; groups = n i; stores = m i }
+      λ i. record { number = 0; slot = 0; annual = map (λ (c : ℕ). a c i) codes; peak = map (λ (c : ℕ). p c i) codes; counts = record { groups = n i; stores = m i } }
 
 -- the answer to an accepted file
 pub accepted-answer : (s : List ℕ) (c : Chains) → verdict s ≡ accepted c → answer s ≡ summed (inventoryAt s c)

@@ -11,7 +11,7 @@ use native.Mathlib.Decide.{decLt}
 use borrow.Author.Tests.{eqb-true, eqb-false}
 use Rattle.slots.specs.Bytes.{slotOf}
 use Rattle.slots.specs.Layout.{nextOf}
-use Rattle.slot_file.specs.Questions.{Question, Verdict, refused}
+use Rattle.slot_file.specs.Questions.{mostSlots, Question, Verdict, refused}
 use Rattle.slot_file.specs.Walk.{first}
 use Rattle.slot_file.specs.Meaning.{FirstNo, Chain, Reached}
 use Rattle.slot_file.proofs.Asking.{first-yes, first-no, first-both}
@@ -55,16 +55,16 @@ pub record Walks (asks : List ℕ → ℕ → List Question) (s : List ℕ) (fro
 module _ (asks : List ℕ → ℕ → List Question) (s : List ℕ) (from : ℕ) (out : ℕ → List ℕ → ℕ → Verdict) (end : List ℕ → Verdict)
     (turn : (n : ℕ) (b : List ℕ) (k : ℕ) → (k ≡ 0 → ⊥) → out (suc n) b k ≡ first (asks b k) (out n (k ∷ b) (nextOf (slotOf s k))))
     (stop : (n : ℕ) (b : List ℕ) → out (suc n) b 0 ≡ end b)
-    (short : (b : List ℕ) (link : ℕ) → Reached asks s from b link → length b < 1024)
+    (short : (b : List ℕ) (link : ℕ) → Reached asks s from b link → length b < mostSlots)
   where
     walk-all : (P : Verdict → Type 0)
         → ((b : List ℕ) (k : ℕ) → Reached asks s from b k → (k ≡ 0 → ⊥) → (n j : ℕ) → FirstNo (asks b k) n j → P (refused n j))
         → ((b : List ℕ) → Reached asks s from b 0 → P (end b))
-        → (n : ℕ) (b : List ℕ) (link : ℕ) → n + length b ≡ 1024 → Reached asks s from b link → P (out n b link)
+        → (n : ℕ) (b : List ℕ) (link : ℕ) → n + length b ≡ mostSlots → Reached asks s from b link → P (out n b link)
     walk-all P no-at end-at zero b link h w = absurd (omega (arith, short b link w))
     walk-all P no-at end-at (suc n) b link h w = go (walk-all P no-at end-at n (link ∷ b) (nextOf (slotOf s link))) (eqb link 0) refl
       where
-        go : (n + length (link ∷ b) ≡ 1024 → Reached asks s from (link ∷ b) (nextOf (slotOf s link)) → P (out n (link ∷ b) (nextOf (slotOf s link))))
+        go : (n + length (link ∷ b) ≡ mostSlots → Reached asks s from (link ∷ b) (nextOf (slotOf s link)) → P (out n (link ∷ b) (nextOf (slotOf s link))))
             → (t : Bool) → eqb link 0 ≡ t → P (out (suc n) b link)
         go ih true e =
             let z = eqb-true link 0 e in
@@ -83,15 +83,15 @@ module _ (asks : List ℕ → ℕ → List Question) (s : List ℕ) (from : ℕ)
         ∙ first-yes (asks b k) (out m (k ∷ b) (nextOf (slotOf s k))) (w .good .0)
         ∙ ap (out m (k ∷ b)) (sym (w .chain .0))
 
-    pub walks : Walks asks s from (out 1024 [] from) end
+    pub walks : Walks asks s from (out mostSlots [] from) end
     walks = record {
-      both = λ P no-at end-at. walk-all P no-at end-at 1024 [] from refl (record { chain = refl; good = tt });
+      both = λ P no-at end-at. walk-all P no-at end-at mostSlots [] from refl (record { chain = refl; good = tt });
       at-no = λ b k w z n j f.
-          let m = 1023 - length b in
+          let m = mostSlots - 1 - length b in
           let h = short b k w in
-          follows b k (suc m) 1024 (omega arith) w ∙ turn m b k z ∙ first-no (asks b k) (out m (k ∷ b) (nextOf (slotOf s k))) n j f;
+          follows b k (suc m) mostSlots (omega arith) w ∙ turn m b k z ∙ first-no (asks b k) (out m (k ∷ b) (nextOf (slotOf s k))) n j f;
       at-end = λ b w.
-          let m = 1023 - length b in
+          let m = mostSlots - 1 - length b in
           let h = short b 0 w in
-          follows b 0 (suc m) 1024 (omega arith) w ∙ stop m b;
+          follows b 0 (suc m) mostSlots (omega arith) w ∙ stop m b;
     }

@@ -1,4 +1,4 @@
--- Different slots from 1 up and below 1,024 are fewer than 1,024: each takes a mark of its own out of as many. Assumes nothing.
+-- Different slots of a file from 1 up are fewer than the most that it has: each takes a mark of its own out of as many. Assumes nothing.
 use Prim.Native.Nat.{ℕ, zero, suc, _+_, _≤_, _<_}
 use mathlib.Core.Path.{_≡_, refl, sym, _∙_}
 use mathlib.Core.List.{List, [], _∷_}
@@ -9,16 +9,16 @@ use lib.Dec.{eqb}
 use native.Mathlib.Omega.{arith}
 use borrow.Author.Tests.{eqb-true, eqb-false}
 use Rattle.sums.specs.Choice.{if_then_else}
-use Rattle.slot_file.specs.Questions.{member}
+use Rattle.slot_file.specs.Questions.{mostSlots, member}
 use Rattle.slot_file.specs.Parts.{marksOf}
 
-pub marks-length : (b : List ℕ) → length (marksOf b) ≡ 1024
+pub marks-length : (b : List ℕ) → length (marksOf b) ≡ mostSlots
 marks-length [] = refl
 marks-length (k ∷ b) = length-set (marksOf b) k true ∙ marks-length b
 
-pub marks-member : (b : List ℕ) (k : ℕ) → 0 < k → k < 1024 → getD (marksOf b) k false ≡ member k b
+pub marks-member : (b : List ℕ) (k : ℕ) → 0 < k → k < mostSlots → getD (marksOf b) k false ≡ member k b
 unfolding member if_then_else
-marks-member [] k z h = getD-set-other (replicate 1024 false) 0 k true false (omega arith) ∙ getD-replicate 1024 k false false h
+marks-member [] k z h = getD-set-other (replicate mostSlots false) 0 k true false (omega arith) ∙ getD-replicate mostSlots k false false h
 marks-member (x ∷ b) k z h = go (marks-member b k z h) (eqb k x) refl
   where
     go : getD (marksOf b) k false ≡ member k b → (t : Bool) → eqb k x ≡ t → getD (set (marksOf b) x true) k false ≡ if_then_else t true (member k b)
@@ -47,7 +47,7 @@ abbrev pub Different : ℕ → List ℕ → Type 0
 Different n [] = Unit {0}
 Different n (k ∷ l) = (0 < k) × (k < n) × (member k l ≡ false) × Different n l
 
-different-marked : (n : ℕ) (l : List ℕ) → n ≤ 1024 → Different n l → marked (marksOf l) ≡ length l + 1
+different-marked : (n : ℕ) (l : List ℕ) → n ≤ mostSlots → Different n l → marked (marksOf l) ≡ length l + 1
 different-marked n [] h f = refl
 different-marked n (k ∷ l) h f =
     omega (
@@ -56,5 +56,5 @@ different-marked n (k ∷ l) h f =
       marked-set (marksOf l) k (omega (arith, marks-length l)) (marks-member l k (f .0) (omega arith) ∙ f .2),
     )
 
-pub different-short : (n : ℕ) (l : List ℕ) → n ≤ 1024 → Different n l → length l < 1024
+pub different-short : (n : ℕ) (l : List ℕ) → n ≤ mostSlots → Different n l → length l < mostSlots
 different-short n l h f = omega (arith, different-marked n l h f, marked-le (marksOf l), marks-length l)

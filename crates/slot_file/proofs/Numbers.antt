@@ -1,27 +1,28 @@
--- A refusal has a number from 1 to 12, so an answer's number is 0 exactly where the file is accepted: the numbers stand in the questions. Assumes nothing.
+-- A refusal of a file has a number from 1 to the last, so an answer's number is 0 exactly where the file is accepted: the numbers stand in the questions. Assumes nothing.
 use Prim.Native.Nat.{ℕ, zero, suc, _+_, _≤_}
 use native.Mathlib.Omega.{arith}
 use mathlib.Core.Path.{_≡_}
 use mathlib.Core.List.{List, [], _∷_, _++_}
+use Rattle.vehicles.specs.Fields.{pollutantCount}
 use Rattle.slots.specs.Bytes.{slotOf}
 use Rattle.slots.specs.Layout.{groupRead, readStore, readNumber}
 use Rattle.slot_file.specs.Sources.{Chains}
-use Rattle.slot_file.specs.Questions.{Question, lastOf, headAsks, sourcesOf, groupsSoFar, storesSoFar, linkAsks, coefficientAsks, rowsAsks, closingAsks, groupAsks, storeAsks, reachAsks, lastAsks, accepted, refused}
+use Rattle.slot_file.specs.Questions.{lastNumber, Question, lastOf, headAsks, sourcesOf, groupsSoFar, storesSoFar, linkAsks, coefficientAsks, rowsAsks, closingAsks, groupAsks, storeAsks, reachAsks, lastAsks, accepted, refused}
 use Rattle.slot_file.specs.Walk.{verdict}
 use Rattle.slot_file.specs.Meaning.{FirstNo, here, later, Refuses, at-head, at-group, at-store, at-last}
 use Rattle.slot_file.specs.Figures.{refusal, answered, answer, summed}
 use Rattle.slot_file.proofs.Verdicts.{exactly-when}
 
--- each question has a number from 1 to 12
+-- each question has a number from 1 to the last
 abbrev Numbered : List Question → Type 0
 Numbered [] = Unit {0}
-Numbered (q ∷ qs) = (1 ≤ q .number) × (q .number ≤ 12) × Numbered qs
+Numbered (q ∷ qs) = (1 ≤ q .number) × (q .number ≤ lastNumber) × Numbered qs
 
 numbered-append : (l m : List Question) → Numbered l → Numbered m → Numbered (l ++ m)
 numbered-append [] m h k = k
 numbered-append (q ∷ l) m h k = (h .0, h .1, numbered-append l m (h .2) k)
 
-first-numbered : (qs : List Question) (n k : ℕ) → Numbered qs → FirstNo qs n k → (1 ≤ n) × (n ≤ 12)
+first-numbered : (qs : List Question) (n k : ℕ) → Numbered qs → FirstNo qs n k → (1 ≤ n) × (n ≤ lastNumber)
 first-numbered qs n k h (here q rest e) = (h .0, h .1)
 first-numbered qs n k h (later q rest e f) = first-numbered rest n k (h .2) f
 
@@ -50,8 +51,8 @@ group-numbered : (s : List ℕ) (c : Chains) (g : ℕ) → Numbered (groupAsks s
 unfolding groupAsks
 group-numbered s c g =
     let l = linkAsks s (lastOf (c .groups)) (sourcesOf c) g (groupRead (slotOf s g) .number) in
-    numbered-append (l ++ rowsAsks s g 6) (closingAsks s g)
-    (numbered-append l (rowsAsks s g 6) (link-numbered s (lastOf (c .groups)) (sourcesOf c) g (groupRead (slotOf s g) .number)) (rows-numbered s g 6)) (closing-numbered s g)
+    numbered-append (l ++ rowsAsks s g pollutantCount) (closingAsks s g)
+    (numbered-append l (rowsAsks s g pollutantCount) (link-numbered s (lastOf (c .groups)) (sourcesOf c) g (groupRead (slotOf s g) .number)) (rows-numbered s g pollutantCount)) (closing-numbered s g)
 
 store-numbered : (s : List ℕ) (c : Chains) (k : ℕ) → Numbered (storeAsks s c k)
 unfolding storeAsks
@@ -66,14 +67,14 @@ last-numbered : (s : List ℕ) (c : Chains) → Numbered (lastAsks s c)
 unfolding lastAsks
 last-numbered s c = reach-numbered _ _ _
 
-pub refused-number : (s : List ℕ) (n k : ℕ) → Refuses s n k → (1 ≤ n) × (n ≤ 12)
+pub refused-number : (s : List ℕ) (n k : ℕ) → Refuses s n k → (1 ≤ n) × (n ≤ lastNumber)
 refused-number s n k (at-head f) = first-numbered (headAsks s) n k (head-numbered s) f
 refused-number s n k (at-group c j h v z f) = first-numbered _ n k (group-numbered s (groupsSoFar (c .groups)) j) f
 refused-number s n k (at-store c j h v w z f) = first-numbered _ n k (store-numbered s (storesSoFar c (c .stores)) j) f
 refused-number s n k (at-last c h v w f) = first-numbered _ n k (last-numbered s c) f
 
--- the answer of a refused file has its number, from 1 to 12, and its slot, and all else zero; of an accepted one, the number 0
-pub refused-answer : (s : List ℕ) (n k : ℕ) → verdict s ≡ refused n k → (answer s ≡ refusal n k) × (1 ≤ n) × (n ≤ 12)
+-- the answer of a refused file has its number, from 1 to the last, and its slot, and all else zero; of an accepted one, the number 0
+pub refused-answer : (s : List ℕ) (n k : ℕ) → verdict s ≡ refused n k → (answer s ≡ refusal n k) × (1 ≤ n) × (n ≤ lastNumber)
 unfolding answer answered
 refused-answer s n k e = let r = refused-number s n k (exactly-when s (refused n k) .0 e) in (rw e, r .0, r .1)
 

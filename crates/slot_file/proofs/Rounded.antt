@@ -13,7 +13,8 @@ use Rattle.sums.specs.Answer.{Contribution}
 use Rattle.slot_file.specs.Questions.{accepted}
 use Rattle.slot_file.specs.Walk.{verdict}
 use Rattle.slot_file.specs.Sources.{groupAt, storeAt, Chains, inventoryAt}
-use Rattle.slot_file.specs.Figures.{contributions, exactSum, annualFigure, peakFigure, codes, summed, answer}
+use Rattle.slot_file.specs.Codes.{codes, codeCount}
+use Rattle.slot_file.specs.Figures.{contributions, exactSum, annualFigure, peakFigure, countsOf, summed, answer}
 use Rattle.slot_file.proofs.Units.{Units, exact-parts}
 use Rattle.slot_file.proofs.Agreement.{accepted-answer}
 
@@ -42,8 +43,16 @@ pub record Figures (s : List ℕ) (c : Chains) (i : ℕ) : Type 0 where
   pub annual : Rounded (getD (answer s .annual) i 0) (exactSum (λ (x : Contribution). x .tonnes) (getD codes i 0) (contributionsOf s c) ⊙ whole 1000000)
   pub peak : Rounded (getD (answer s .peak) i 0) (exactSum (λ (x : Contribution). x .rate) (getD codes i 0) (contributionsOf s c) ⊙ whole 10000000)
 
+-- the sources of the chains are as many as their slots
+pub summed-counts : (s : List ℕ) (c : Chains) → summed (inventoryAt s c) .counts ≡ countsOf c
+unfolding summed inventoryAt
+summed-counts s c =
+    let g = length-map (reverse (c .groups)) (groupAt s) ∙ length-reverse (c .groups) in
+    let k = length-map (reverse (c .stores)) (storeAt s) ∙ length-reverse (c .stores) in
+    λ i. record { groups = g i; stores = k i }
+
 module _ (s : List ℕ) (c : Chains) (v : verdict s ≡ accepted c) where
-  pub figure-within : (i : ℕ) → i < 10 → Figures s c i
+  pub figure-within : (i : ℕ) → i < codeCount → Figures s c i
   unfolding summed annualFigure peakFigure
   figure-within i h =
       let a = exact-parts (λ (x : Contribution). x .tonnes) tonneParts (lit< tt) (λ (x : Contribution) (u : Units x). u .annual) (getD codes i 0) 1000000 (inventoryAt s c) in
@@ -54,10 +63,5 @@ module _ (s : List ℕ) (c : Chains) (v : verdict s ≡ accepted c) where
       }
 
   -- "how many vehicle groups and store records were summed, and those are the lengths of the two chains"
-  pub counts-are : (answer s .groups ≡ length (c .groups)) × (answer s .stores ≡ length (c .stores))
-  unfolding summed inventoryAt
-  counts-are =
-      let a = accepted-answer s c v in (
-        ap (λ r. r .groups) a ∙ length-map (reverse (c .groups)) (groupAt s) ∙ length-reverse (c .groups),
-        ap (λ r. r .stores) a ∙ length-map (reverse (c .stores)) (storeAt s) ∙ length-reverse (c .stores),
-      )
+  pub counts-are : answer s .counts ≡ countsOf c
+  counts-are = ap (λ r. r .counts) (accepted-answer s c v) ∙ summed-counts s c

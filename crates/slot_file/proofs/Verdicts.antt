@@ -1,6 +1,6 @@
 -- A verdict means what the questions say, and only that verdict does. Each chain is walked by `Chains.walks`; what is asked of its slots keeps them different
 -- and below the slot count, so the walk never runs out. Assumes nothing.
-use Prim.Native.Nat.{ℕ, suc, _%_, _<_, _≤_}
+use Prim.Native.Nat.{ℕ, suc, _*_, _%_, _<_, _≤_}
 use mathlib.Core.Path.{_≡_, refl, subst, _∙_}
 use mathlib.Core.Logic.{_↔_}
 use mathlib.Core.List.{List, [], _∷_, _++_}
@@ -14,22 +14,22 @@ use Rattle.sums.proofs.Choices.{left, right}
 use Rattle.slots.specs.Bytes.{slotOf}
 use Rattle.slots.specs.Layout.{nextOf, headerOf}
 use Rattle.slot_file.specs.Sources.{Chains}
-use Rattle.slot_file.specs.Questions.{Question, slotCount, headAsks, member, linkAsks, sourcesOf, groupsSoFar, storesSoFar, groupAsks, storeAsks, lastAsks, Verdict, accepted, refused}
+use Rattle.slot_file.specs.Questions.{mostSlots, Question, slotCount, headAsks, member, linkAsks, sourcesOf, groupsSoFar, storesSoFar, groupAsks, storeAsks, lastAsks, Verdict, accepted, refused}
 use Rattle.slot_file.specs.Walk.{first, chain, afterAll, storeWalk, groupWalk, verdict}
 use Rattle.slot_file.specs.Meaning.{AllYes, Reached, Chain, Good, Groups, Accepts, at-head, at-group, at-store, at-last, Means}
 use Rattle.slot_file.proofs.Asking.{first-yes, first-no, first-both}
 use Rattle.slot_file.proofs.Marks.{Different, different-short}
 use Rattle.slot_file.proofs.Chains.{Walks, walks, one-chain}
 
--- question 1 keeps the bytes to 65,536 and so the slots to 1,024
-pub bytes-most : (s : List ℕ) → AllYes (headAsks s) → length s ≤ 65536
+-- question 1 keeps the bytes, and so the slots, to the most
+pub bytes-most : (s : List ℕ) → AllYes (headAsks s) → length s ≤ 64 * mostSlots
 unfolding headAsks
 bytes-most s h =
     let a = leb 64 (length s) in
-    let b = leb (length s) 65536 in
-    leb-true (length s) 65536 (right a b (left (a && b) (eqb (length s % 64) 0) (h .0)))
+    let b = leb (length s) (64 * mostSlots) in
+    leb-true (length s) (64 * mostSlots) (right a b (left (a && b) (eqb (length s % 64) 0) (h .0)))
 
-pub sized : (s : List ℕ) → AllYes (headAsks s) → slotCount s ≤ 1024
+pub sized : (s : List ℕ) → AllYes (headAsks s) → slotCount s ≤ mostSlots
 sized s h = let l = bytes-most s h in omega arith
 
 -- the sources on good chains are different, and below the slot count
@@ -58,7 +58,7 @@ module _ (asks : List ℕ → ℕ → List Question) (end : List ℕ → Verdict
   unfolding chain if_then_else
   stop n b = refl
 
-  walked : (from : ℕ) → ((b : List ℕ) (link : ℕ) → Reached asks s from b link → length b < 1024) → Walks asks s from (chain asks end 1024 s [] from) end
+  walked : (from : ℕ) → ((b : List ℕ) (link : ℕ) → Reached asks s from b link → length b < mostSlots) → Walks asks s from (chain asks end mostSlots s [] from) end
   walked from short = walks asks s from (λ n b k. chain asks end n s b k) end turn stop short
 
 module _ (s : List ℕ) (h : AllYes (headAsks s)) where

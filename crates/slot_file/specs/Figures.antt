@@ -10,18 +10,20 @@ use Rattle.sums.specs.Fraction.{Frac, whole, _⊙_, _⊞_}
 use Rattle.sums.specs.Figures.{nearest}
 use Rattle.sums.specs.Answer.{Contribution}
 use Rattle.vehicles.specs.Fields.{noCoefficients}
-use Rattle.vehicles.specs.Rules.{contributionOf}
+use Rattle.vehicles.specs.Rules.{emissionCount, contributionOf}
 use Rattle.stores.specs.Rules.{handlingContribution, standingContribution, aspirationContribution}
 use Rattle.slots.specs.declared.store.Store.{Store}
 use Rattle.slots.specs.declared.store.Store.the-variants.{Handling, Standing, Aspiration}
+use Rattle.slot_file.specs.declared.Counts.{Counts}
 use Rattle.slot_file.specs.declared.Answer.{Answer}
 use Rattle.slot_file.specs.Questions.{Verdict, accepted, refused}
 use Rattle.slot_file.specs.Walk.{verdict}
-use Rattle.slot_file.specs.Sources.{VehicleGroup, Inventory, inventoryAt}
+use Rattle.slot_file.specs.Sources.{VehicleGroup, Chains, Inventory, inventoryAt}
+use Rattle.slot_file.specs.Codes.{codes}
 
--- "Vehicle rules": what a group gives to the code of each of the six pollutants
+-- "Vehicle rules": what a group gives, to the code of each of its emissions
 unfoldable pub groupContributions : List ℤ → VehicleGroup → List Contribution
-groupContributions ts v = listTo 6 (λ (p : ℕ). contributionOf (v .group) ts (getD (v .coefficients) p noCoefficients) p)
+groupContributions ts v = listTo emissionCount (λ (p : ℕ). contributionOf (v .group) ts (getD (v .coefficients) p noCoefficients) p)
 
 -- "Store rules": what a store record gives to the code of its dust
 unfoldable pub storeContributions : Store → List Contribution
@@ -50,9 +52,9 @@ annualFigure xs c = nearest (exactSum (λ (x : Contribution). x .tonnes) c xs �
 unfoldable pub peakFigure : List Contribution → ℕ → ℕ
 peakFigure xs c = nearest (exactSum (λ (x : Contribution). x .rate) c xs ⊙ whole 10000000)
 
--- the codes in the listing's order
-abbrev pub codes : List ℕ
-codes = 152 ∷ 184 ∷ 301 ∷ 328 ∷ 330 ∷ 337 ∷ 2704 ∷ 2754 ∷ 2908 ∷ 2909 ∷ []
+-- the letter: "those are the lengths of the two chains"
+abbrev pub countsOf : Chains → Counts
+countsOf c = record { groups = length (c .groups); stores = length (c .stores) }
 
 -- the answer: a number and a slot, 0 and 0 of an accepted file; the figures by code, and how many groups and store records were summed
 unfoldable pub summed : Inventory → Answer
@@ -61,13 +63,12 @@ summed v = record {
   slot = 0;
   annual = map (annualFigure (contributions v)) codes;
   peak = map (peakFigure (contributions v)) codes;
-  groups = length (v .groups);
-  stores = length (v .stores);
+  counts = record { groups = length (v .groups); stores = length (v .stores) };
 }
 
 -- "A refusal gives its number and a slot, with every figure and count zero"
 abbrev pub refusal : ℕ → ℕ → Answer
-refusal n k = record { number = n; slot = k; annual = map (λ (c : ℕ). 0) codes; peak = map (λ (c : ℕ). 0) codes; groups = 0; stores = 0 }
+refusal n k = record { number = n; slot = k; annual = map (λ (c : ℕ). 0) codes; peak = map (λ (c : ℕ). 0) codes; counts = record { groups = 0; stores = 0 } }
 
 unfoldable pub answered : List ℕ → Verdict → Answer
 answered s (accepted c) = summed (inventoryAt s c)

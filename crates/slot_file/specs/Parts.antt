@@ -8,10 +8,11 @@ use Rattle.sums.specs.Choice.{if_then_else}
 use Rattle.sums.specs.Fraction.{Frac, partsOf}
 use Rattle.sums.specs.Figures.{tonneParts, gramParts}
 use Rattle.sums.specs.Answer.{Contribution}
+use Rattle.slot_file.specs.Questions.{mostSlots}
 
 -- the marks of the slots, and of slot 0
 abbrev pub marksOf : List ℕ → List Bool
-marksOf [] = set (replicate 1024 false) 0 true
+marksOf [] = set (replicate mostSlots false) 0 true
 marksOf (k ∷ b) = set (marksOf b) k true
 
 -- the parts of 1 / k that a contribution gives to the code c

@@ -1,11 +1,11 @@
 -- 01, "Questions in order": each question is written once, as a value with its answer, its number and the slot of a refusal; and what a file is told.
-use Prim.Native.Nat.{ℕ, zero, suc, _+_, _-_, _/_, _%_}
+use Prim.Native.Nat.{ℕ, zero, suc, _+_, _*_, _-_, _/_, _%_}
 use mathlib.Core.Bool.{Bool, true, false, _&&_, not}
 use mathlib.Core.List.{List, [], _∷_, _++_}
 use lib.Dec.{leb, ltb, eqb}
 use lib.ListN.{length}
 use Rattle.sums.specs.Choice.{if_then_else}
-use Rattle.vehicles.specs.Fields.{temperaturesInRange}
+use Rattle.vehicles.specs.Fields.{pollutantCount, temperaturesInRange}
 use Rattle.vehicles.specs.Rules.{notZero}
 use Rattle.slots.specs.Bytes.{slotOf}
 use Rattle.slots.specs.Layout.{headerOf, groupRead, coefficientsRead, readStore, readNumber}
@@ -24,6 +24,14 @@ pub data Verdict : Type 0 where
   accepted : Chains → Verdict
   refused : ℕ → ℕ → Verdict
 
+-- the last number that a refusal of a file can have; "Only a listing asks 13"
+abbrev pub lastNumber : ℕ
+lastNumber = 12
+
+-- slots of a file at most: "from 64 to 65,536" bytes
+abbrev pub mostSlots : ℕ
+mostSlots = 1024
+
 -- slots of the file
 abbrev pub slotCount : List ℕ → ℕ
 slotCount s = length s / 64
@@ -31,7 +39,7 @@ slotCount s = length s / 64
 -- questions 1 to 5, of the file and its slot 0; "The slot is 0 for 1 to 5"
 unfoldable pub headAsks : List ℕ → List Question
 headAsks s =
-    question (leb 64 (length s) && leb (length s) 65536 && eqb (length s % 64) 0) 1 0  -- "Is the length a multiple of 64, from 64 to 65,536?"
+    question (leb 64 (length s) && leb (length s) (64 * mostSlots) && eqb (length s % 64) 0) 1 0  -- "Is the length a multiple of 64, from 64 to 65,536?"
     ∷ question (eqb (headerOf (slotOf s 0) .format) 1) 2 0  -- "Is the format number 1?"
     ∷ question (eqb (headerOf (slotOf s 0) .count) (slotCount s)) 3 0  -- "Does the slot count equal length / 64?"
     ∷ question (headerOf (slotOf s 0) .rest) 4 0  -- "Are bytes 32..63 of slot 0 zero?"
@@ -77,7 +85,7 @@ rowsAsks s g (suc n) = rowsAsks s g n ++ coefficientAsks s g n
 
 -- "after the sixth, next is zero (10)": at "the sixth coefficient slot where its next isn't zero"
 abbrev pub afterSixth : List ℕ → ℕ → Question
-afterSixth s g = question (eqb (coefficientSlot s g 6) 0) 10 (coefficientSlot s g 5)
+afterSixth s g = question (eqb (coefficientSlot s g pollutantCount) 0) 10 (coefficientSlot s g (pollutantCount - 1))
 
 -- "then 11 for the group": "the group for 11"
 unfoldable pub closingAsks : List ℕ → ℕ → List Question
@@ -91,12 +99,15 @@ abbrev pub lastOf : List ℕ → ℕ
 lastOf [] = 0
 lastOf (k ∷ b) = k
 
--- every slot that the groups reach, the last first: themselves and their six coefficient slots
+-- the first n coefficient slots of a group, the last first
+unfoldable pub coefficientSlots : List ℕ → ℕ → ℕ → List ℕ
+coefficientSlots s g zero = []
+coefficientSlots s g (suc n) = coefficientSlot s g n ∷ coefficientSlots s g n
+
+-- every slot that the groups reach, the last first: themselves and their coefficient slots
 unfoldable pub reachedBy : List ℕ → List ℕ → List ℕ
 reachedBy s [] = []
-reachedBy s (g ∷ b) =
-    coefficientSlot s g 5 ∷ coefficientSlot s g 4 ∷ coefficientSlot s g 3 ∷ coefficientSlot s g 2 ∷ coefficientSlot s g 1 ∷ coefficientSlot s g 0
-    ∷ g ∷ reachedBy s b
+reachedBy s (g ∷ b) = coefficientSlots s g pollutantCount ++ g ∷ reachedBy s b
 
 -- the sources on the chains, and every slot that the chains reach
 abbrev pub sourcesOf : Chains → List ℕ
@@ -115,7 +126,7 @@ storesSoFar c b = record { groups = c .groups; stores = b }
 -- all that is asked of a link g to a group, and of a link k to a store record, by the chains so far
 unfoldable pub groupAsks : List ℕ → Chains → ℕ → List Question
 groupAsks s c g =
-    linkAsks s (lastOf (c .groups)) (sourcesOf c) g (groupRead (slotOf s g) .number) ++ rowsAsks s g 6 ++ closingAsks s g
+    linkAsks s (lastOf (c .groups)) (sourcesOf c) g (groupRead (slotOf s g) .number) ++ rowsAsks s g pollutantCount ++ closingAsks s g
 
 unfoldable pub storeAsks : List ℕ → Chains → ℕ → List Question
 storeAsks s c k = linkAsks s (lastOf (c .stores)) (sourcesOf c) k (readNumber (readStore (slotOf s k)))

@@ -4,6 +4,7 @@ use Prim.Native.Nat.{ℕ, zero, suc}
 use mathlib.Core.List.{List, map, reverse}
 use lib.IntN.{ℤ}
 use Rattle.sums.specs.Choice.{listTo}
+use Rattle.vehicles.specs.Fields.{pollutantCount}
 use Rattle.vehicles.specs.declared.group.Group.{Group}
 use Rattle.vehicles.specs.declared.group.Coefficients.{Coefficients}
 use Rattle.slots.specs.Bytes.{slotOf}
@@ -23,7 +24,7 @@ pub record VehicleGroup : Type 0 where
 unfoldable pub groupAt : List ℕ → ℕ → VehicleGroup
 groupAt s g = record {
   group = groupRead (slotOf s g) .group;
-  coefficients = listTo 6 (λ (n : ℕ). coefficientsRead (slotOf s (coefficientSlot s g n)) .coefficients);
+  coefficients = listTo pollutantCount (λ (n : ℕ). coefficientsRead (slotOf s (coefficientSlot s g n)) .coefficients);
 }
 
 -- the record of a slot that reads as one

@@ -1,11 +1,12 @@
 -- 01, "Surveyed examples": the starred rows, as files of bytes with what they print.
 use Prim.Native.Nat.{ℕ, _-_, _/_, _%_}
-use mathlib.Core.List.{List, [], _∷_, _++_}
+use mathlib.Core.List.{List, [], _∷_, _++_, flatMap}
 use lib.Dec.{eqb}
 use lib.ListN.{length, replicate}
 use Prim.Native.String.{String}
 use Rattle.sums.specs.Choice.{if_then_else}
-use Rattle.slot_file.specs.Listing.{text}
+use Rattle.slot_file.specs.Codes.{codes}
+use Rattle.slot_file.specs.Listing.{text, decimal, padded}
 
 -- two and four bytes, little-endian, and a slot filled up with zeros
 abbrev two : ℕ → List ℕ
@@ -70,15 +71,13 @@ abbrev given : List ℕ → List ℕ → Row
 given f t = record { file = f; prints = t }
 
 -- a code's line, zero where it is not the one that has figures
-abbrev codeLine : ℕ → ℕ → String → List ℕ → List ℕ
-codeLine c d name figures = text name ++ if_then_else (eqb c d) figures (text " 0.000000 0.0000000") ++ text "\n"
+abbrev codeLine : ℕ → String → ℕ → List ℕ
+codeLine c figures d = padded 4 d ++ if_then_else (eqb c d) (text figures) (text " 0.000000 0.0000000") ++ text "\n"
 
--- the listing of a file that gives only to the code c, with its figures and the counts
-abbrev sheet : ℕ → String → String → List ℕ
-sheet c figures counts =
-    text "code t/year g/s\n" ++ codeLine c 152 "0152" (text figures) ++ codeLine c 184 "0184" (text figures) ++ codeLine c 301 "0301" (text figures)
-    ++ codeLine c 328 "0328" (text figures) ++ codeLine c 330 "0330" (text figures) ++ codeLine c 337 "0337" (text figures) ++ codeLine c 2704 "2704" (text figures)
-    ++ codeLine c 2754 "2754" (text figures) ++ codeLine c 2908 "2908" (text figures) ++ codeLine c 2909 "2909" (text figures) ++ text counts
+-- the listing of a file that gives only to the code c, with its figures and how many groups and store records it has
+abbrev sheet : ℕ → String → ℕ → ℕ → List ℕ
+sheet c figures groups stores =
+    text "code t/year g/s\n" ++ flatMap (codeLine c figures) codes ++ text "sources " ++ decimal groups ++ text " " ++ decimal stores ++ text "\n"
 
 -- 01's listing of case B, letter by letter
 abbrev pub listingOfB : String
@@ -86,7 +85,7 @@ listingOfB = "code t/year g/s\n0152 0.000000 0.0000000\n0184 0.000000 0.0000000\
 
 -- a record's file, and the listing of its dust 2908
 abbrev dust : List ℕ → String → Row
-dust bytes figures = given (one bytes) (sheet 2908 figures "sources 0 1\n")
+dust bytes figures = given (one bytes) (sheet 2908 figures 0 1)
 
 -- a temperature below zero
 abbrev below : ℕ → List ℕ
@@ -94,24 +93,24 @@ below n = two (65536 - n)
 
 -- B's yard at a temperature, and its line
 abbrev warmed : List ℕ → String → Row
-warmed t figures = given (yard 0 t) (sheet 337 figures "sources 1 0\n")
+warmed t figures = given (yard 0 t) (sheet 337 figures 1 0)
 
 abbrev pub fileOfB : List ℕ
 fileOfB = yard 0 (two 100)
 
 unfoldable pub surveyed : List Row
 surveyed =
-    given (head 1 0 0 (two 0)) (sheet 0 "" "sources 0 0\n")  -- A
+    given (head 1 0 0 (two 0)) (sheet 0 "" 0 0)  -- A
     ∷ given (yard 0 (two 100)) (text listingOfB)  -- B
-    ∷ given (yard 1 (two 100)) (sheet 337 " 0.020160 0.0146667" "sources 1 0\n")  -- C, with control
-    ∷ given (yard 2 (two 100)) (sheet 337 " 0.016800 0.0111111" "sources 1 0\n")  -- D, heated
+    ∷ given (yard 1 (two 100)) (sheet 337 " 0.020160 0.0146667" 1 0)  -- C, with control
+    ∷ given (yard 2 (two 100)) (sheet 337 " 0.016800 0.0111111" 1 0)  -- D, heated
     ∷ dust (store 0 3 2 (bulk 5 20 50 10 1 4 0 1200)) " 3.894065 0.1764000"  -- E
     ∷ dust (store 0 3 2 (bulk 5 21 50 10 1 4 0 1200)) " 4.672878 0.2116800"  -- F, at wind 2.1
     ∷ dust (store 0 3 2 (bulk 5 140 50 10 1 4 0 1200)) " 8.956350 0.4057200"  -- "14.0 is accepted"
     ∷ given (one (store 0 3 2 (bulk 5 141 50 10 1 4 0 1200))) (text "refused 9 1\n")  -- "14.1 refused 9"
     ∷ dust (store 0 4 2 (bulk 1 30 5 1 2 0 0 100)) " 5.165597 0.2340000"  -- G, K6 missing
     ∷ dust (store 0 5 2 (air 500 2000 9500 1000)) " 0.180000 0.0500000"  -- H
-    ∷ given (head 3 0 1 (two 0) ++ store 2 5 2 (air 1 1 0 111) ++ store 0 5 2 (air 1 1 0 111)) (sheet 2908 " 0.000001 0.0000020" "sources 0 2\n")  -- I
+    ∷ given (head 3 0 1 (two 0) ++ store 2 5 2 (air 1 1 0 111) ++ store 0 5 2 (air 1 1 0 111)) (sheet 2908 " 0.000001 0.0000020" 0 2)  -- I
     ∷ dust (store 0 5 2 (air 1 1 0 111)) " 0.000000 0.0000010"  -- "one alone 0.000000"
     ∷ dust (store 0 4 2 (bulk 6 20 110 501 7 0 100 5)) " 0.000001 0.0000001"  -- J, 5 m²
     ∷ dust (store 0 4 2 (bulk 6 20 110 501 7 0 100 4)) " 0.000001 0.0000000"  -- J, 4 m²

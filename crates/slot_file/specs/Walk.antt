@@ -7,7 +7,7 @@ use Rattle.sums.specs.declared.answer.Verdict as answer
 use Rattle.slots.specs.Bytes.{slotOf}
 use Rattle.slots.specs.Layout.{nextOf, headerOf}
 use Rattle.slot_file.specs.Sources.{Chains}
-use Rattle.slot_file.specs.Questions.{Question, Verdict, accepted, refused, headAsks, groupsSoFar, storesSoFar, groupAsks, storeAsks, lastAsks}
+use Rattle.slot_file.specs.Questions.{mostSlots, Question, Verdict, accepted, refused, headAsks, groupsSoFar, storesSoFar, groupAsks, storeAsks, lastAsks}
 
 -- the refusal of the first question that is answered no, and else v
 unfoldable pub first : List Question → Verdict → Verdict
@@ -15,7 +15,7 @@ first [] v = v
 first (q ∷ qs) v = if_then_else (q .answer) (first qs v) (refused (q .number) (q .slot))
 
 -- a chain from the link k on, after the slots b, the last first: `asks` has what is asked of a link, "zero ends it", and then comes `end`. A chain of different
--- slots below 1,024 is shorter than n, which is 1,024 where the chain begins: so the case of none left is never met (`Verdicts.says`)
+-- slots of a file is shorter than n, which is `mostSlots` where the chain begins: so the case of none left is never met (`Verdicts.says`)
 unfoldable pub chain : (List ℕ → ℕ → List Question) → (List ℕ → Verdict) → ℕ → List ℕ → List ℕ → ℕ → Verdict
 chain asks end zero s b k = refused 7 k
 chain asks end (suc n) s b k = if_then_else (eqb k 0) (end b) (first (asks b k) (chain asks end n s (k ∷ b) (nextOf (slotOf s k))))
@@ -26,10 +26,10 @@ afterAll s c = first (lastAsks s c) (accepted c)
 
 -- the store chain, after the groups of c
 unfoldable pub storeWalk : List ℕ → Chains → Verdict
-storeWalk s c = chain (λ (b : List ℕ). storeAsks s (storesSoFar c b)) (λ (b : List ℕ). afterAll s (storesSoFar c b)) 1024 s [] (headerOf (slotOf s 0) .stores)
+storeWalk s c = chain (λ (b : List ℕ). storeAsks s (storesSoFar c b)) (λ (b : List ℕ). afterAll s (storesSoFar c b)) mostSlots s [] (headerOf (slotOf s 0) .stores)
 
 unfoldable pub groupWalk : List ℕ → Verdict
-groupWalk s = chain (λ (b : List ℕ). groupAsks s (groupsSoFar b)) (λ (b : List ℕ). storeWalk s (groupsSoFar b)) 1024 s [] (headerOf (slotOf s 0) .groups)
+groupWalk s = chain (λ (b : List ℕ). groupAsks s (groupsSoFar b)) (λ (b : List ℕ). storeWalk s (groupsSoFar b)) mostSlots s [] (headerOf (slotOf s 0) .groups)
 
 unfoldable pub verdict : List ℕ → Verdict
 verdict s = first (headAsks s) (groupWalk s)

@@ -10,6 +10,7 @@ use Rattle.stores.specs.declared.records.Bulk.{Bulk}
 use Rattle.stores.specs.declared.records.Handling.{Handling}
 use Rattle.stores.specs.declared.records.Standing.{Standing}
 use Rattle.stores.specs.declared.records.Aspiration.{Aspiration}
+use Rattle.vehicles.specs.Fields.{pollutantCount}
 use Rattle.vehicles.specs.Rules.{refused}
 use Rattle.vehicles.specs.declared.group.Distances.{Distances}
 use Rattle.vehicles.specs.declared.group.Group.{Group}
@@ -62,14 +63,17 @@ coefficientsAt l at = record {
   idle = record { 0 = getD l (at + 6) 0 };
 }
 
--- of the six pollutants, "1 CO, 2 hydrocarbons, 3 NO2, 4 soot, 5 SO2, 6 lead", one row after the other
-unfoldable pub rowsOf : List ℕ → List Coefficients
-rowsOf l = listTo 6 (λ (p : ℕ). coefficientsAt l (7 * p))
+abbrev pub rowSize : ℕ
+rowSize = 7
 
--- how long the slices of a group have to be: four distances, twelve months' days and temperatures, six rows of seven coefficients
+-- of the pollutants, "1 CO, 2 hydrocarbons, 3 NO2, 4 soot, 5 SO2, 6 lead", one row after the other
+unfoldable pub rowsOf : List ℕ → List Coefficients
+rowsOf l = listTo pollutantCount (λ (p : ℕ). coefficientsAt l (rowSize * p))
+
+-- how long the slices of a group have to be: four distances, twelve months' days and temperatures, a row of coefficients for each pollutant
 abbrev pub lengthTests : List ℕ → List ℕ → List ℤ → List ℕ → List Bool
 lengthTests distances days temperatures coefficients =
-    eqb (length distances) 4 ∷ eqb (length days) 12 ∷ eqb (length temperatures) 12 ∷ eqb (length coefficients) 42 ∷ []
+    eqb (length distances) 4 ∷ eqb (length days) 12 ∷ eqb (length temperatures) 12 ∷ eqb (length coefficients) (rowSize * pollutantCount) ∷ []
 
 unfoldable pub lengths : List ℕ → List ℕ → List ℤ → List ℕ → Bool
 lengths distances days temperatures coefficients = allOf (lengthTests distances days temperatures coefficients)

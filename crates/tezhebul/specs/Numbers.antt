@@ -2,22 +2,27 @@
 use Prim.Native.Nat.{ℕ, _+_, _*_}
 use mathlib.Core.List.{List, [], _∷_, _++_}
 use lib.Dec.{leb}
-use lib.ListN.{getD, length, drop}
-use Rattle.sums.specs.Choice.{if_then_else, listTo}
+use lib.ListN.{length, drop}
+use Rattle.sums.specs.Choice.{if_then_else}
 use Rattle.sums.specs.declared.answer.Verdict.{Verdict}
 use Rattle.sums.specs.declared.answer.Emission.{Emission}
 use Rattle.stores.specs.declared.rules.StoreAnswer.{StoreAnswer}
+use Rattle.vehicles.specs.Rules.{emissionCount}
 use Rattle.vehicles.specs.declared.rule.GroupAnswer.{GroupAnswer}
+use Rattle.slot_file.specs.Codes.{codeCount}
 use Rattle.slot_file.specs.declared.Answer.{Answer}
 
 -- a number and a slot in one
 abbrev pub packed : Verdict → ℕ
 packed v = 65536 * v .number + v .slot
 
--- number, slot, groups, store records, the ten annual figures, the ten peak figures
+-- number, slot, groups, store records, the annual figures by code, the peak figures by code
 abbrev pub numbersOf : Answer → List ℕ
-numbersOf a =
-    a .number ∷ a .slot ∷ a .groups ∷ a .stores ∷ (listTo 10 (λ (i : ℕ). getD (a .annual) i 0) ++ listTo 10 (λ (i : ℕ). getD (a .peak) i 0))
+numbersOf a = a .number ∷ a .slot ∷ a .counts .groups ∷ a .counts .stores ∷ (a .annual ++ a .peak)
+
+-- and how many numbers these are
+abbrev pub answerSize : ℕ
+answerSize = 4 + 2 * codeCount
 
 -- the numbers at the start of a buffer, where they fit, and nothing else changed
 unfoldable pub into : List ℕ → List ℕ → List ℕ
@@ -26,6 +31,9 @@ into l buffer = if_then_else (leb (length l) (length buffer)) (l ++ drop (length
 -- an emission: the substance code, then the exact annual sum and the exact peak sum, each as whole printed units and the part of one that is left over its denominator
 abbrev pub emissionNumbers : Emission → List ℕ
 emissionNumbers e = e .code ∷ e .annual .0 .whole ∷ e .annual .0 .part ∷ e .peak .0 .whole ∷ e .peak .0 .part ∷ []
+
+abbrev pub emissionSize : ℕ
+emissionSize = 5
 
 -- emissions, one after the other
 abbrev pub emissionsNumbers : List Emission → List ℕ
@@ -36,9 +44,15 @@ emissionsNumbers (e ∷ es) = emissionNumbers e ++ emissionsNumbers es
 abbrev pub ruleNumbers : Verdict → List Emission → List ℕ
 ruleNumbers v es = v .number ∷ v .slot ∷ emissionsNumbers es
 
--- a store record gives to the code of its dust alone, a group of each of the six pollutants
+-- a store record gives to the code of its dust alone, a group to the codes of its emissions
 abbrev pub storeNumbers : StoreAnswer → List ℕ
 storeNumbers a = ruleNumbers (a .verdict) (a .emission ∷ [])
 
+abbrev pub storeSize : ℕ
+storeSize = 2 + emissionSize
+
 abbrev pub groupNumbers : GroupAnswer → List ℕ
 groupNumbers a = ruleNumbers (a .verdict) (a .emissions)
+
+abbrev pub groupSize : ℕ
+groupSize = 2 + emissionSize * emissionCount

@@ -1,8 +1,9 @@
 // The fields of sources from the numbers that a caller hands over.
 ghost use mathlib.Core.Path.{_≡_};
-ghost use Prim.Native.Nat.{_+_, _≤_};
+ghost use Prim.Native.Nat.{_+_, _*_, _≤_};
 ghost use lib.ListN.{length};
-ghost use Rattle.tezhebul.specs.Fields.{bulkOf, lengths, distancesAt, groupOf, coefficientsAt, rowsOf};
+ghost use Rattle.vehicles.specs.Fields.{pollutantCount};
+ghost use Rattle.tezhebul.specs.Fields.{bulkOf, lengths, distancesAt, groupOf, coefficientsAt, rowSize, rowsOf};
 use stores::Bulk;
 use vehicles::Coefficients;
 use vehicles::Distances;
@@ -10,6 +11,7 @@ use vehicles::Group;
 use vehicles::Metres;
 use vehicles::Minutes;
 use vehicles::Neutraliser;
+use vehicles::POLLUTANTS;
 use vehicles::PerKilometre;
 use vehicles::PerMinute;
 
@@ -37,6 +39,11 @@ pub(crate) fn bulk_of(
     }
 }
 
+// The numbers of a pollutant's row, and of all rows.
+const ROW: usize = 7;
+
+const COEFFICIENTS: usize = ROW * POLLUTANTS;
+
 // Whether each slice is as long as it has to be.
 pub(crate) fn right_lengths(
     distances: &[u32],
@@ -49,7 +56,7 @@ pub(crate) fn right_lengths(
     (distances.len() == 4)
         & (days.len() == 12)
         & (temperatures.len() == 12)
-        & (coefficients.len() == 42)
+        & (coefficients.len() == COEFFICIENTS)
 }
 
 fn distances_at(distances: &[u32], at: usize) -> Distances
@@ -127,10 +134,12 @@ pub(crate) fn temperatures_of(temperatures: &[i16]) -> [i16; 12]
     ts
 }
 
-fn coefficients_at(numbers: &[u32], at: usize) -> Coefficients
-    requires { ⌜ at + 7 ≤ length (now numbers) ⌝ }
-    ensures { λ r. ⌜ r ≡ coefficientsAt (now (numbers .entry)) at ⌝ }
+// The row at a place from 0.
+fn row_at(numbers: &[u32], place: usize) -> Coefficients
+    requires { ⌜ rowSize * place + rowSize ≤ length (now numbers) ⌝ }
+    ensures { λ r. ⌜ r ≡ coefficientsAt (now (numbers .entry)) (rowSize * place) ⌝ }
 {
+    let at = ROW * place;
     let warmup = [
         PerMinute(numbers[at]),
         PerMinute(numbers[at + 1]),
@@ -148,17 +157,17 @@ fn coefficients_at(numbers: &[u32], at: usize) -> Coefficients
     }
 }
 
-// The rows of the six pollutants, seven numbers each.
-pub(crate) fn rows_of(coefficients: &[u32]) -> [Coefficients; 6]
-    requires { ⌜ length (now coefficients) ≡ 42 ⌝ }
+// The rows of the pollutants.
+pub(crate) fn rows_of(coefficients: &[u32]) -> [Coefficients; POLLUTANTS]
+    requires { ⌜ length (now coefficients) ≡ rowSize * pollutantCount ⌝ }
     ensures { λ r. ⌜ r ≡ rowsOf (now (coefficients .entry)) ⌝ }
 {
     [
-        coefficients_at(coefficients, 0),
-        coefficients_at(coefficients, 7),
-        coefficients_at(coefficients, 14),
-        coefficients_at(coefficients, 21),
-        coefficients_at(coefficients, 28),
-        coefficients_at(coefficients, 35),
+        row_at(coefficients, 0),
+        row_at(coefficients, 1),
+        row_at(coefficients, 2),
+        row_at(coefficients, 3),
+        row_at(coefficients, 4),
+        row_at(coefficients, 5),
     ]
 }

@@ -5,7 +5,7 @@ ghost use lib.ListN.{length};
 ghost use Rattle.slot_file.specs.Walk.{verdict, told};
 ghost use Rattle.slot_file.specs.Figures.{answer};
 ghost use Rattle.slot_file.specs.Listing.{listed};
-ghost use Rattle.tezhebul.specs.Numbers.{packed, numbersOf, into};
+ghost use Rattle.tezhebul.specs.Numbers.{packed, numbersOf, answerSize, into};
 use super::numbers;
 use slot_file::Answer;
 
@@ -20,7 +20,7 @@ pub extern "C" fn tezhebul_check(file: &[u8]) -> u32
 
 // The numbers of an answer at the start of `out`; false, and nothing written, where it has room for fewer.
 fn give_answer(a: Answer, out: &mut [u64]) -> bool
-    ensures { λ r. ⌜ (r ≡ leb 24 (length (now (out .entry)))) × (now (out .exit) ≡ into (numbersOf a) (now (out .entry))) ⌝ }
+    ensures { λ r. ⌜ (r ≡ leb answerSize (length (now (out .entry)))) × (now (out .exit) ≡ into (numbersOf a) (now (out .entry))) ⌝ }
 {
     let n = numbers::numbers_of(a);
     numbers::give(&n, out)
@@ -29,7 +29,7 @@ fn give_answer(a: Answer, out: &mut [u64]) -> bool
 // The numbers of a file's answer.
 #[no_mangle]
 pub extern "C" fn tezhebul_answer(file: &[u8], out: &mut [u64]) -> bool
-    ensures { λ r. ⌜ (r ≡ leb 24 (length (now (out .entry)))) × (now (out .exit) ≡ into (numbersOf (answer (now (file .entry)))) (now (out .entry))) ⌝ }
+    ensures { λ r. ⌜ (r ≡ leb answerSize (length (now (out .entry)))) × (now (out .exit) ≡ into (numbersOf (answer (now (file .entry)))) (now (out .entry))) ⌝ }
 {
     give_answer(walk::answer(file), out)
 }

@@ -6,9 +6,20 @@ ghost use lib.ListN.{length};
 ghost use lib.Seq.{sets};
 ghost use Rattle.tezhebul.specs.Numbers.{numbersOf, emissionNumbers, ruleNumbers, storeNumbers, into};
 use slot_file::Answer;
+use slot_file::COUNT;
 use stores::StoreAnswer;
 use sums::Emission;
 use sums::Verdict;
+use vehicles::EMISSIONS;
+
+// How many numbers there are of an answer, of an emission, and of what the rules answer.
+const ANSWER_SIZE: usize = 4 + 2 * COUNT;
+
+const EMISSION_SIZE: usize = 5;
+
+const STORE_SIZE: usize = 2 + EMISSION_SIZE;
+
+const GROUP_SIZE: usize = 2 + EMISSION_SIZE * EMISSIONS;
 
 // Numbers from a place of a buffer on, which has room for them.
 fn put_numbers(numbers: &[u64], out: &mut [u64], from: usize)
@@ -33,40 +44,22 @@ pub(crate) fn give(numbers: &[u64], out: &mut [u64]) -> bool
     true
 }
 
-pub(crate) fn numbers_of(a: Answer) -> [u64; 24]
+pub(crate) fn numbers_of(a: Answer) -> [u64; ANSWER_SIZE]
     ensures { λ r. ⌜ r ≡ numbersOf a ⌝ }
 {
     let x = a.annual;
     let y = a.peak;
-    [
-        a.number as u64,
-        a.slot as u64,
-        a.groups as u64,
-        a.stores as u64,
-        x[0],
-        x[1],
-        x[2],
-        x[3],
-        x[4],
-        x[5],
-        x[6],
-        x[7],
-        x[8],
-        x[9],
-        y[0],
-        y[1],
-        y[2],
-        y[3],
-        y[4],
-        y[5],
-        y[6],
-        y[7],
-        y[8],
-        y[9],
-    ]
+    let mut numbers = [0; ANSWER_SIZE];
+    numbers[0] = a.number as u64;
+    numbers[1] = a.slot as u64;
+    numbers[2] = a.counts.groups as u64;
+    numbers[3] = a.counts.stores as u64;
+    put_numbers(&x, &mut numbers, 4);
+    put_numbers(&y, &mut numbers, 4 + COUNT);
+    numbers
 }
 
-fn emission_numbers(e: Emission) -> [u64; 5]
+fn emission_numbers(e: Emission) -> [u64; EMISSION_SIZE]
     ensures { λ r. ⌜ r ≡ emissionNumbers e ⌝ }
 {
     let annual = e.annual.0;
@@ -80,33 +73,29 @@ fn emission_numbers(e: Emission) -> [u64; 5]
     ]
 }
 
-pub(crate) fn store_numbers(a: StoreAnswer) -> [u64; 7]
+pub(crate) fn store_numbers(a: StoreAnswer) -> [u64; STORE_SIZE]
     ensures { λ r. ⌜ r ≡ storeNumbers a ⌝ }
 {
     let e = a.emission;
     let x = emission_numbers(e);
-    [
-        a.verdict.number as u64,
-        a.verdict.slot as u64,
-        x[0],
-        x[1],
-        x[2],
-        x[3],
-        x[4],
-    ]
+    let mut numbers = [0; STORE_SIZE];
+    numbers[0] = a.verdict.number as u64;
+    numbers[1] = a.verdict.slot as u64;
+    put_numbers(&x, &mut numbers, 2);
+    numbers
 }
 
-pub(crate) fn group_numbers(v: Verdict, es: [Emission; 6]) -> [u64; 32]
+pub(crate) fn group_numbers(v: Verdict, es: [Emission; EMISSIONS]) -> [u64; GROUP_SIZE]
     ensures { λ r. ⌜ r ≡ ruleNumbers v es ⌝ }
 {
-    let mut numbers = [0; 32];
+    let mut numbers = [0; GROUP_SIZE];
     numbers[0] = v.number as u64;
     numbers[1] = v.slot as u64;
     let mut p = 0;
-    while p < 6 {
+    while p < EMISSIONS {
         let e = es[p];
         let x = emission_numbers(e);
-        put_numbers(&x, &mut numbers, 2 + 5 * p);
+        put_numbers(&x, &mut numbers, 2 + EMISSION_SIZE * p);
         p += 1;
     }
     numbers

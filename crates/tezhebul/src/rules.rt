@@ -6,7 +6,7 @@ ghost use lib.ListN.{length};
 ghost use Rattle.stores.specs.Rules.{handlingAnswer, standingAnswer, aspirationAnswer};
 ghost use Rattle.sums.specs.Choice.{if_then_else};
 ghost use Rattle.vehicles.specs.Rules.{groupAnswer};
-ghost use Rattle.tezhebul.specs.Numbers.{storeNumbers, groupNumbers, into};
+ghost use Rattle.tezhebul.specs.Numbers.{storeNumbers, storeSize, groupNumbers, groupSize, into};
 ghost use Rattle.tezhebul.specs.Fields.{handlingOf, standingOf, aspirationOf, lengths, groupOf, rowsOf, flagged};
 use super::fields;
 use super::numbers;
@@ -17,10 +17,11 @@ use stores::StoreAnswer;
 use vehicles::Coefficients;
 use vehicles::Group;
 use vehicles::GroupAnswer;
+use vehicles::POLLUTANTS;
 
 // The numbers of a store rule's answer at the start of `out`; false, and nothing written, where it has room for fewer.
 fn give_store(a: StoreAnswer, out: &mut [u64]) -> bool
-    ensures { λ r. ⌜ (r ≡ leb 7 (length (now (out .entry)))) × (now (out .exit) ≡ into (storeNumbers a) (now (out .entry))) ⌝ }
+    ensures { λ r. ⌜ (r ≡ leb storeSize (length (now (out .entry)))) × (now (out .exit) ≡ into (storeNumbers a) (now (out .entry))) ⌝ }
 {
     let n = numbers::store_numbers(a);
     numbers::give(&n, out)
@@ -40,7 +41,7 @@ pub extern "C" fn tezhebul_handling(
     drop: u8,
     out: &mut [u64],
 ) -> bool
-    ensures { λ r. ⌜ (r ≡ leb 7 (length (now (out .entry)))) × (now (out .exit) ≡ into (storeNumbers (handlingAnswer (handlingOf dust store material wind moisture grain openness amount drop))) (now (out .entry))) ⌝ }
+    ensures { λ r. ⌜ (r ≡ leb storeSize (length (now (out .entry)))) × (now (out .exit) ≡ into (storeNumbers (handlingAnswer (handlingOf dust store material wind moisture grain openness amount drop))) (now (out .entry))) ⌝ }
 {
     let bulk = fields::bulk_of(
         dust,
@@ -69,7 +70,7 @@ pub extern "C" fn tezhebul_standing(
     k6: u16,
     out: &mut [u64],
 ) -> bool
-    ensures { λ r. ⌜ (r ≡ leb 7 (length (now (out .entry)))) × (now (out .exit) ≡ into (storeNumbers (standingAnswer (standingOf dust store material wind moisture grain openness amount k6))) (now (out .entry))) ⌝ }
+    ensures { λ r. ⌜ (r ≡ leb storeSize (length (now (out .entry)))) × (now (out .exit) ≡ into (storeNumbers (standingAnswer (standingOf dust store material wind moisture grain openness amount k6))) (now (out .entry))) ⌝ }
 {
     let bulk = fields::bulk_of(
         dust,
@@ -95,7 +96,7 @@ pub extern "C" fn tezhebul_aspiration(
     hours: u16,
     out: &mut [u64],
 ) -> bool
-    ensures { λ r. ⌜ (r ≡ leb 7 (length (now (out .entry)))) × (now (out .exit) ≡ into (storeNumbers (aspirationAnswer (aspirationOf dust store concentration flow capture hours))) (now (out .entry))) ⌝ }
+    ensures { λ r. ⌜ (r ≡ leb storeSize (length (now (out .entry)))) × (now (out .exit) ≡ into (storeNumbers (aspirationAnswer (aspirationOf dust store concentration flow capture hours))) (now (out .entry))) ⌝ }
 {
     give_store(
         stores::aspiration_emission(Aspiration {
@@ -112,7 +113,7 @@ pub extern "C" fn tezhebul_aspiration(
 
 // The numbers of a group's answer at the start of `out`, likewise.
 fn give_group(a: GroupAnswer, out: &mut [u64]) -> bool
-    ensures { λ r. ⌜ (r ≡ leb 32 (length (now (out .entry)))) × (now (out .exit) ≡ into (groupNumbers a) (now (out .entry))) ⌝ }
+    ensures { λ r. ⌜ (r ≡ leb groupSize (length (now (out .entry)))) × (now (out .exit) ≡ into (groupNumbers a) (now (out .entry))) ⌝ }
 {
     let v = a.verdict;
     let es = a.emissions;
@@ -120,7 +121,7 @@ fn give_group(a: GroupAnswer, out: &mut [u64]) -> bool
     numbers::give(&n, out)
 }
 
-fn group_answer(flags: u8, g: Group, ts: [i16; 12], ks: [Coefficients; 6]) -> GroupAnswer
+fn group_answer(flags: u8, g: Group, ts: [i16; 12], ks: [Coefficients; POLLUTANTS]) -> GroupAnswer
     ensures { λ r. ⌜ r ≡ flagged flags (groupAnswer g ts ks) ⌝ }
 {
     if flags <= 3 {
@@ -148,7 +149,7 @@ pub extern "C" fn tezhebul_group(
     coefficients: &[u32],
     out: &mut [u64],
 ) -> bool
-    ensures { λ r. ⌜ (r ≡ (lengths (now (distances .entry)) (now (days .entry)) (now (temperatures .entry)) (now (coefficients .entry)) && leb 32 (length (now (out .entry))))) × (now (out .exit) ≡ if_then_else (lengths (now (distances .entry)) (now (days .entry)) (now (temperatures .entry)) (now (coefficients .entry))) (into (groupNumbers (flagged flags (groupAnswer (groupOf category fuel flags vehicles leaving share running warming idle (now (distances .entry)) (now (days .entry))) (now (temperatures .entry)) (rowsOf (now (coefficients .entry)))))) (now (out .entry))) (now (out .entry))) ⌝ }
+    ensures { λ r. ⌜ (r ≡ (lengths (now (distances .entry)) (now (days .entry)) (now (temperatures .entry)) (now (coefficients .entry)) && leb groupSize (length (now (out .entry))))) × (now (out .exit) ≡ if_then_else (lengths (now (distances .entry)) (now (days .entry)) (now (temperatures .entry)) (now (coefficients .entry))) (into (groupNumbers (flagged flags (groupAnswer (groupOf category fuel flags vehicles leaving share running warming idle (now (distances .entry)) (now (days .entry))) (now (temperatures .entry)) (rowsOf (now (coefficients .entry)))))) (now (out .entry))) (now (out .entry))) ⌝ }
 {
     if fields::right_lengths(distances, days, temperatures, coefficients) {
         let g = fields::group_of(

@@ -16,8 +16,8 @@ use Rattle.sums.specs.declared.annual.AnnualSum.{AnnualSum}
 use Rattle.sums.specs.declared.peak.PeakSum.{PeakSum}
 use Rattle.sums.specs.declared.answer.Emission.{Emission}
 use Rattle.sums.proofs.Choices.{yes, listTo-is, listTo-at, listTo-same}
-use Rattle.slot_file.specs.Figures.{codes}
-use Rattle.totals.specs.Totals.{Totals, moreFor, placeOf, sumAt, withSum, numbersIn, totalsIn, plusEmission, plusTo, plusIn, plusToIn, figuresOf, figuresIn}
+use Rattle.slot_file.specs.Codes.{codes, placeOf}
+use Rattle.totals.specs.Totals.{Totals, moreFor, sumAt, withSum, numbersIn, totalsIn, plusEmission, plusTo, plusIn, plusToIn, figuresOf, figuresIn}
 use Rattle.totals.proofs.Places.{codes-distinct, unplaced, placed}
 
 pub length-with : (l : List ℕ) (from p : ℕ) (m : Mixed) → length (withSum l from p m) ≡ length l

@@ -9,8 +9,8 @@ use lib.ListN.{getD, set, length}
 use borrow.Author.Tests.{leb-true, eqb-true}
 use Rattle.sums.specs.Choice.{if_then_else}
 use Rattle.sums.proofs.Choices.{left, right}
-use Rattle.slot_file.specs.Figures.{codes}
-use Rattle.totals.specs.Totals.{moreFor, placeOf}
+use Rattle.slot_file.specs.Codes.{codes, placeOf}
+use Rattle.totals.specs.Totals.{moreFor}
 
 -- none stands again after its place
 abbrev distinct : List ℕ → Bool

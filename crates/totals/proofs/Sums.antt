@@ -15,7 +15,7 @@ use Rattle.sums.specs.declared.answer.Emission.{Emission}
 use Rattle.sums.specs.declared.mixed.Mixed.{Mixed}
 use Rattle.sums.proofs.Choices.{listTo-at}
 use Rattle.sums.proofs.Wrapping.{mixed-plus}
-use Rattle.slot_file.specs.Figures.{codes}
+use Rattle.slot_file.specs.Codes.{codes}
 use Rattle.slot_file.specs.Alike.{total}
 use Rattle.slot_file.specs.Parts.{partsTo, annualTo, peakTo}
 use Rattle.totals.specs.Totals.{Totals, moreFor, totalsOf, plusEmission, plusTo}

@@ -11,7 +11,7 @@ use Rattle.sums.specs.declared.mixed.Mixed.{Mixed}
 use Rattle.sums.specs.declared.annual.AnnualSum.{AnnualSum}
 use Rattle.sums.specs.declared.peak.PeakSum.{PeakSum}
 use Rattle.sums.specs.declared.answer.Emission.{Emission}
-use Rattle.slot_file.specs.Figures.{codes}
+use Rattle.slot_file.specs.Codes.{codes}
 use Rattle.totals.specs.declared.Figures.{Figures}
 
 -- the sums of the listing's codes, in its order
@@ -71,11 +71,7 @@ plusToIn l es (suc n) = plusIn (plusToIn l es n) (getD es n noEmission)
 unfoldable pub figuresIn : List ℕ → Figures
 figuresIn l = if_then_else (eqb (length l) 40) (figuresOf (totalsIn l)) (record { annual = replicate 10 0; peak = replicate 10 0 })
 
--- What inner functions and proofs go by: the place of c in a list, or the list's length; another sum at a place; and so many exact units of each code
-unfoldable pub placeOf : List ℕ → ℕ → ℕ
-placeOf [] c = 0
-placeOf (k ∷ ks) c = if_then_else (eqb c k) 0 (suc (placeOf ks c))
-
+-- What inner functions and proofs go by: another sum at a place; and so many exact units of each code
 abbrev pub withSum : List ℕ → ℕ → ℕ → Mixed → List ℕ
 withSum l from i m = set (set l (i + from) (m .whole)) (i + (from + 10)) (m .part)
 

@@ -3,8 +3,8 @@
 ghost use mathlib.Core.Path.{_≡_};
 ghost use Prim.Native.Nat.{_+_, _<_};
 ghost use lib.ListN.{length};
-ghost use Rattle.slot_file.specs.Figures.{codes};
-ghost use Rattle.totals.specs.Totals.{placeOf, noNumbers, sumAt, withSum, totalsIn, plusIn, plusToIn, figuresOf, figuresIn};
+ghost use Rattle.totals.specs.Totals.{noNumbers, sumAt, withSum, totalsIn, plusIn, plusToIn, figuresOf, figuresIn};
+use slot_file::COUNT;
 use sums::AnnualSum;
 use sums::Emission;
 use sums::PeakSum;
@@ -12,27 +12,8 @@ use sums::mixed::Mixed;
 
 // Millionths of a tonne, and ten-millionths of a gram per second.
 pub struct Figures {
-    pub annual: [u64; 10],
-    pub peak: [u64; 10],
-}
-
-// A code's place in the listing, or 10.
-fn place_of(code: u16) -> usize
-    ensures { λ r. ⌜ r ≡ placeOf codes code ⌝ }
-{
-    match code {
-        152 => 0,
-        184 => 1,
-        301 => 2,
-        328 => 3,
-        330 => 4,
-        337 => 5,
-        2704 => 6,
-        2754 => 7,
-        2908 => 8,
-        2909 => 9,
-        _ => 10,
-    }
+    pub annual: [u64; COUNT],
+    pub peak: [u64; COUNT],
 }
 
 // Where the annual sums begin, and the peak sums; and how far behind their whole units the parts are.
@@ -76,7 +57,7 @@ pub fn add(totals: &mut [u64], e: Emission)
     if totals.len() != 40 {
         return;
     }
-    let p = place_of(e.code);
+    let p = slot_file::place_of(e.code);
     if p < 10 {
         let annual = AnnualSum(sum_at(totals, ANNUAL, p)).plus(e.annual);
         let peak = PeakSum(sum_at(totals, PEAK, p)).plus(e.peak);

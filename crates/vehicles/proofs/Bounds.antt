@@ -15,7 +15,7 @@ use Rattle.sums.proofs.Choices.{listTo-at}
 use Rattle.sums.proofs.Products.{_⊗_}
 use Rattle.sums.proofs.Sources.{Bounded, bounded, Exactly, exactly}
 use Rattle.vehicles.specs.Fields.{groupInRange, coefficientsInRange, noCoefficients}
-use Rattle.vehicles.specs.Rules.{controlOf, annualTonnes, peakGrams, lowestOf, contributionOf, emissionOf, emissionsOf, inRange, notZero, groupAnswer}
+use Rattle.vehicles.specs.Rules.{controlOf, annualTonnes, peakGrams, lowestOf, contributionOf, emissionOf, emissionCount, emissionsOf, inRange, notZero, groupAnswer}
 use Rattle.vehicles.specs.Parts.{conditionsAt, activityOf, ConditionsInRange, ActivityInRange, NeutraliserInRange, massParts, outParts, yearParts}
 use Rattle.vehicles.specs.declared.group.Group.{Group}
 use Rattle.vehicles.specs.declared.group.Neutraliser.{Neutraliser}
@@ -59,12 +59,12 @@ module _ (g : Group) (ts : List ℤ) (k : Coefficients) (hg : groupInRange g ≡
   unfolding emissionOf
   emission-exactly = exactly (contributionOf g ts k p) (counted g ts k p) group-bounded
 
--- each of the six emissions of a group that is not refused
-pub group-exactly : (g : Group) (ts : List ℤ) (ks : List Coefficients) → inRange g ts ks ≡ true → notZero g ks ≡ false → (p : ℕ) → p < 6 →
+-- each emission of a group that is not refused
+pub group-exactly : (g : Group) (ts : List ℤ) (ks : List Coefficients) → inRange g ts ks ≡ true → notZero g ks ≡ false → (p : ℕ) → p < emissionCount →
     Exactly (getD (groupAnswer g ts ks .emissions) p noEmission) (annualTonnes g ts (getD ks p noCoefficients) (controlOf g p))
     (peakGrams g (getD ks p noCoefficients) (controlOf g p) (lowestOf ts))
 unfolding groupAnswer emissionsOf if_then_else
 group-exactly g ts ks h b p q =
     let r = all-in-range g ts ks h in
-    simp (h, b) (rw (listTo-at noEmission 6 (λ (m : ℕ). emissionOf g ts (getD ks m noCoefficients) m) p q)
+    simp (h, b) (rw (listTo-at noEmission emissionCount (λ (m : ℕ). emissionOf g ts (getD ks m noCoefficients) m) p q)
     (emission-exactly g ts (getD ks p noCoefficients) (r .0) (of-six ks (r .1) p q) p))

@@ -10,7 +10,7 @@ use lib.Dec.{leb}
 use lib.IntN.{ℤ}
 use lib.ListN.{getD}
 use Rattle.sums.proofs.Choices.{left, right, nth, each, allTo-at}
-use Rattle.vehicles.specs.Fields.{distancesInRange, daysInRange, monthLengths, temperaturesInRange, groupInRange, groupTests, coefficientsInRange, seven, noMinute, noKilometre, allInRange, noCoefficients}
+use Rattle.vehicles.specs.Fields.{pollutantCount, distancesInRange, daysInRange, monthLengths, temperaturesInRange, groupInRange, groupTests, coefficientsInRange, seven, noMinute, noKilometre, allInRange, noCoefficients}
 use Rattle.vehicles.specs.Rules.{inRange}
 use Rattle.vehicles.specs.Parts.{distanceSum, NeutraliserInRange}
 use Rattle.vehicles.specs.declared.group.Distances.{Distances}
@@ -83,10 +83,10 @@ module _ (k : Coefficients) (h : coefficientsInRange k ≡ true) where
   pub idle : k .idle .0 ≤ 1000000
   idle = one-of 6
 
--- each of the six
-pub of-six : (ks : List Coefficients) → allInRange ks ≡ true → (p : ℕ) → p < 6 → coefficientsInRange (getD ks p noCoefficients) ≡ true
+-- each pollutant's
+pub of-six : (ks : List Coefficients) → allInRange ks ≡ true → (p : ℕ) → p < pollutantCount → coefficientsInRange (getD ks p noCoefficients) ≡ true
 unfolding allInRange
-of-six ks h p q = allTo-at 6 (λ (p : ℕ). coefficientsInRange (getD ks p noCoefficients)) h p q
+of-six ks h p q = allTo-at pollutantCount (λ (p : ℕ). coefficientsInRange (getD ks p noCoefficients)) h p q
 
 -- a group, temperatures and coefficients that are all in range
 pub all-in-range : (g : Group) (ts : List ℤ) (ks : List Coefficients) → inRange g ts ks ≡ true → (groupInRange g ≡ true) × (allInRange ks ≡ true)

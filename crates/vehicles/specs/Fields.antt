@@ -13,6 +13,10 @@ use Rattle.vehicles.specs.declared.group.Distances.{Distances}
 use Rattle.vehicles.specs.declared.group.Group.{Group}
 use Rattle.vehicles.specs.declared.group.Coefficients.{Coefficients}
 
+-- "3 pollutant: 1 CO, 2 hydrocarbons, 3 NO2, 4 soot, 5 SO2, 6 lead": so many, each with its own coefficients
+abbrev pub pollutantCount : ℕ
+pollutantCount = 6
+
 abbrev pub minus : ℕ → ℤ
 minus n = negℤ (pos n)
 
@@ -65,7 +69,7 @@ unfoldable pub coefficientsInRange : Coefficients → Bool
 coefficientsInRange k = allOf (map (λ (n : ℕ). leb n 1000000) (seven k))
 
 unfoldable pub allInRange : List Coefficients → Bool
-allInRange ks = allTo 6 (λ (p : ℕ). coefficientsInRange (getD ks p noCoefficients))
+allInRange ks = allTo pollutantCount (λ (p : ℕ). coefficientsInRange (getD ks p noCoefficients))
 
 unfoldable pub allZero : Coefficients → Bool
 allZero k = allOf (map (λ (n : ℕ). eqb n 0) (seven k))

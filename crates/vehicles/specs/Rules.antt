@@ -125,9 +125,13 @@ contributionOf g ts k p = contribution (codeOf (g .fuel) p) (annualTonnes g ts k
 unfoldable pub emissionOf : Group → List ℤ → Coefficients → ℕ → Emission
 emissionOf g ts k p = emitted (contributionOf g ts k p)
 
--- of the six pollutants, each with its own coefficients
+-- how many emissions a group's answer holds: one for each pollutant
+abbrev pub emissionCount : ℕ
+emissionCount = 6
+
+-- of each pollutant, with its own coefficients
 unfoldable pub emissionsOf : Group → List ℤ → List Coefficients → List Emission
-emissionsOf g ts ks = listTo 6 (λ (p : ℕ). emissionOf g ts (getD ks p noCoefficients) p)
+emissionsOf g ts ks = listTo emissionCount (λ (p : ℕ). emissionOf g ts (getD ks p noCoefficients) p)
 
 -- "given a value outside its field's range such a rule answers 9"
 unfoldable pub inRange : Group → List ℤ → List Coefficients → Bool
@@ -140,7 +144,7 @@ notZero g ks =
 
 -- "with zero figures and slot 0"; what is not refused is answered exactly (`Bounds.group-exactly`)
 abbrev pub refused : ℕ → GroupAnswer
-refused n = record { verdict = refusedBy n; emissions = replicate 6 noEmission }
+refused n = record { verdict = refusedBy n; emissions = replicate emissionCount noEmission }
 
 unfoldable pub groupAnswer : Group → List ℤ → List Coefficients → GroupAnswer
 groupAnswer g ts ks =

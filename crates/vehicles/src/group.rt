@@ -6,6 +6,9 @@ use super::units::Minutes;
 use super::units::PerKilometre;
 use super::units::PerMinute;
 
+// Those that coefficients are given for: CO, hydrocarbons, NO2, soot, SO2, lead.
+pub const POLLUTANTS: usize = 6;
+
 // From the nearest and from the farthest place of the yard.
 pub struct Distances {
     pub nearest: Metres,
@@ -101,7 +104,7 @@ pub fn coefficients_in_range(k: Coefficients) -> bool
         & (k.idle.0 <= 1_000_000)
 }
 
-pub(crate) fn all_in_range(ks: [Coefficients; 6]) -> bool
+pub(crate) fn all_in_range(ks: [Coefficients; POLLUTANTS]) -> bool
     ensures { λ r. ⌜ r ≡ allInRange ks ⌝ }
 {
     coefficients_in_range(ks[0])

@@ -1,9 +1,9 @@
-// What a vehicle group gives of each of the six pollutants.
+// What a vehicle group gives of each pollutant.
 ghost use mathlib.Core.Path.{_≡_};
 ghost use mathlib.Core.Bool.{true};
 ghost use Prim.Native.Nat.{_*_, _<_, _≤_};
 ghost use Rattle.sums.specs.Figures.{annualOf, peakOf};
-ghost use Rattle.vehicles.specs.Fields.{groupInRange, coefficientsInRange, allInRange};
+ghost use Rattle.vehicles.specs.Fields.{pollutantCount, groupInRange, coefficientsInRange, allInRange};
 ghost use Rattle.vehicles.specs.Rules.{codeOf, emissionsOf, inRange, notZero, refused, groupAnswer};
 ghost use Rattle.vehicles.specs.Parts.{ConditionsInRange, ActivityInRange, yearParts, emissionParts};
 use super::activity;
@@ -12,6 +12,7 @@ use super::control;
 use super::group;
 use super::group::Coefficients;
 use super::group::Group;
+use super::group::POLLUTANTS;
 use super::temperature;
 use super::trip;
 use super::units;
@@ -22,9 +23,12 @@ use sums::Emission;
 use sums::PeakSum;
 use sums::Verdict;
 
+// What a group's answer holds: one for each pollutant.
+pub const EMISSIONS: usize = 6;
+
 pub struct GroupAnswer {
     pub verdict: Verdict,
-    pub emissions: [Emission; 6],
+    pub emissions: [Emission; EMISSIONS],
 }
 
 // A year of one vehicle, in 2,000,000,000ths of a gram.
@@ -61,12 +65,12 @@ fn peak_of(g: Group, out: u64) -> PeakSum
     PeakSum::of(out * units::wide16(g.leaving)).times(500)
 }
 
-const PETROL_CODES: [u16; 6] = [337, 2704, 301, 328, 330, 184];
+const PETROL_CODES: [u16; POLLUTANTS] = [337, 2704, 301, 328, 330, 184];
 
-const DIESEL_CODES: [u16; 6] = [337, 2754, 301, 328, 330, 184];
+const DIESEL_CODES: [u16; POLLUTANTS] = [337, 2754, 301, 328, 330, 184];
 
 fn code_of(fuel: u8, place: usize) -> u16
-    requires { ⌜ place < 6 ⌝ }
+    requires { ⌜ place < pollutantCount ⌝ }
     ensures { λ r. ⌜ r ≡ codeOf fuel place ⌝ }
 {
     if fuel == 1 {
@@ -84,7 +88,7 @@ fn emission_of(
     a: Activity,
     coldest: Conditions,
 ) -> Emission
-    requires { ⌜ (groupInRange g ≡ true) × (coefficientsInRange k ≡ true) × (place < 6) × ActivityInRange a × ConditionsInRange coldest ⌝ }
+    requires { ⌜ (groupInRange g ≡ true) × (coefficientsInRange k ≡ true) × (place < pollutantCount) × ActivityInRange a × ConditionsInRange coldest ⌝ }
     ensures { λ r. ⌜ r ≡ emissionParts g k place a coldest ⌝ }
 {
     let control = control::control_of(g, place);
@@ -95,29 +99,29 @@ fn emission_of(
     }
 }
 
-fn emissions_of(g: Group, ts: [i16; 12], ks: [Coefficients; 6]) -> [Emission; 6]
+fn emissions_of(g: Group, ts: [i16; 12], ks: [Coefficients; POLLUTANTS]) -> [Emission; EMISSIONS]
     requires { ⌜ (groupInRange g ≡ true) × (allInRange ks ≡ true) ⌝ }
     ensures { λ r. ⌜ r ≡ emissionsOf g ts ks ⌝ }
 {
     let a = activity::activity_of(g, ts);
     let coldest = warmup::conditions_at(g, temperature::lowest(ts));
-    let mut emissions = [Emission::none(); 6];
+    let mut emissions = [Emission::none(); EMISSIONS];
     let mut p = 0;
-    while p < 6 {
+    while p < EMISSIONS {
         emissions[p] = emission_of(g, ks[p], p, a, coldest);
         p += 1;
     }
     emissions
 }
 
-fn in_range(g: Group, ts: [i16; 12], ks: [Coefficients; 6]) -> bool
+fn in_range(g: Group, ts: [i16; 12], ks: [Coefficients; POLLUTANTS]) -> bool
     ensures { λ r. ⌜ r ≡ inRange g ts ks ⌝ }
 {
     group::group_in_range(g) & temperature::temperatures_in_range(ts) & group::all_in_range(ks)
 }
 
 // Whether the soot of a petrol group, or the lead of a diesel one, is not zero throughout.
-pub fn forbidden_soot_or_lead(g: Group, ks: [Coefficients; 6]) -> bool
+pub fn forbidden_soot_or_lead(g: Group, ks: [Coefficients; POLLUTANTS]) -> bool
     ensures { λ r. ⌜ r ≡ notZero g ks ⌝ }
 {
     ((g.fuel == 1) & !group::all_zero(ks[3])) | ((g.fuel == 2) & !group::all_zero(ks[5]))
@@ -130,12 +134,12 @@ impl GroupAnswer {
     {
         Self {
             verdict: Verdict { number, slot: 0 },
-            emissions: [Emission::none(); 6],
+            emissions: [Emission::none(); EMISSIONS],
         }
     }
 }
 
-pub fn group_emissions(g: Group, ts: [i16; 12], ks: [Coefficients; 6]) -> GroupAnswer
+pub fn group_emissions(g: Group, ts: [i16; 12], ks: [Coefficients; POLLUTANTS]) -> GroupAnswer
     ensures { λ r. ⌜ r ≡ groupAnswer g ts ks ⌝ }
 {
     if in_range(g, ts, ks) {

@@ -16,7 +16,8 @@ use Rattle.sums.proofs.Sources.{Bounded}
 use Rattle.slots.specs.declared.store.Store.{Store}
 use Rattle.slot_file.specs.Sources.{VehicleGroup, groupAt, storeAt, temperaturesAt, Chains, inventoryAt}
 use Rattle.slot_file.specs.Meaning.{Accepts}
-use Rattle.slot_file.specs.Figures.{groupContributions, storeContributions, contributions, exactSum, annualFigure, peakFigure, codes}
+use Rattle.slot_file.specs.Codes.{codes}
+use Rattle.slot_file.specs.Figures.{groupContributions, storeContributions, contributions, exactSum, annualFigure, peakFigure}
 use Rattle.slot_file.specs.Alike.{total}
 use Rattle.slot_file.proofs.Units.{Units, total-contributions, exact-parts}
 use Rattle.slot_file.specs.Parts.{partsTo, annualTo, peakTo}

@@ -6,6 +6,7 @@ use mathlib.Core.List.{List, [], _∷_, _++_, append-assoc}
 use native.Mathlib.Omega.{arith}
 use native.Mathlib.Decide.{decLt}
 use Rattle.sums.specs.declared.answer.Verdict.{Verdict}
+use Rattle.vehicles.specs.Fields.{pollutantCount}
 use Rattle.vehicles.specs.Rules.{notZero}
 use Rattle.vehicles.specs.declared.group.Group.{Group}
 use Rattle.vehicles.specs.declared.group.Coefficients.{Coefficients}
@@ -24,14 +25,14 @@ module _ (s : List ℕ) (c : Chains) (g : ℕ) where
   link = linkAsks s (lastOf (c .groups)) (sourcesOf c) g (groupRead (slotOf s g) .number)
 
   abbrev pub rows : List Question
-  rows = rowsAsks s g 6 ++ afterSixth s g ∷ []
+  rows = rowsAsks s g pollutantCount ++ afterSixth s g ∷ []
 
   abbrev pub eleven : List Question
   eleven = question (not (notZero (groupAt s g .group) (groupAt s g .coefficients))) 11 g ∷ []
 
   asks-are : link ++ (rows ++ eleven) ≡ groupAsks s c g
   unfolding groupAsks closingAsks
-  asks-are = ap (λ (l : List Question). link ++ l) (append-assoc (rowsAsks s g 6) (afterSixth s g ∷ []) eleven) ∙ sym (append-assoc link (rowsAsks s g 6) (afterSixth s g ∷ eleven))
+  asks-are = ap (λ (l : List Question). link ++ l) (append-assoc (rowsAsks s g pollutantCount) (afterSixth s g ∷ []) eleven) ∙ sym (append-assoc link (rowsAsks s g pollutantCount) (afterSixth s g ∷ eleven))
 
   module _ {v : Verdict} where
     pub link-told : {sources : List Bool} (holder : ℕ) (read : GroupRead) → LinkTold s sources holder g (read .number) v → read ≡ groupRead (slotOf s g) → (g ≡ 0 → ⊥)

@@ -1,5 +1,5 @@
 -- One source more: a link that nothing is refused of lengthens the chain, and its emissions make the sums those of the sources passed. Assumes nothing.
-use Prim.Native.Nat.{ℕ, _+_, _<_}
+use Prim.Native.Nat.{ℕ, zero, suc, _+_, _<_}
 use native.Mathlib.Omega.{arith}
 use mathlib.Core.Path.{_≡_, refl, ap, subst, _∙_}
 use mathlib.Core.Bool.{Bool, true, false}
@@ -11,7 +11,7 @@ use Rattle.sums.specs.Answer.{Contribution, emitted}
 use Rattle.sums.specs.declared.answer.Verdict.{Verdict}
 use Rattle.stores.specs.Rules.{handlingContribution, standingContribution, aspirationContribution}
 use Rattle.stores.proofs.Exactly.{handling-emitted, standing-emitted, aspiration-emitted}
-use Rattle.vehicles.specs.Fields.{noCoefficients}
+use Rattle.vehicles.specs.Fields.{pollutantCount, noCoefficients}
 use Rattle.vehicles.specs.declared.rule.GroupAnswer.{GroupAnswer}
 use Rattle.vehicles.specs.Rules.{contributionOf, emissionOf, emissionsOf, groupAnswer}
 use Rattle.slots.specs.Bytes.{slotOf}
@@ -19,14 +19,15 @@ use Rattle.slots.specs.Layout.{readStore}
 use Rattle.slots.specs.declared.store.Store.{Store}
 use Rattle.slots.specs.declared.store.Store.the-variants.{Handling, Standing, Aspiration}
 use Rattle.slots.specs.declared.store.StoreRead.{StoreRead}
-use Rattle.slot_file.specs.Sources.{groupAt, storeAt, temperaturesAt, Chains}
-use Rattle.slot_file.specs.Questions.{slotCount, headAsks, reachedBy, sourcesOf, groupsSoFar, storesSoFar, storeAsks}
+use Rattle.slot_file.specs.Sources.{coefficientSlot, groupAt, storeAt, temperaturesAt, Chains}
+use Rattle.slot_file.specs.Questions.{mostSlots, slotCount, headAsks, coefficientSlots, reachedBy, sourcesOf, groupsSoFar, storesSoFar, storeAsks}
 use Rattle.slot_file.specs.Meaning.{AllYes, Groups, Stores}
 use Rattle.slot_file.specs.Figures.{groupContributions, storeContributions}
 use Rattle.slot_file.specs.Alike.{total}
 use Rattle.slot_file.proofs.Marks.{different-short}
 use Rattle.slot_file.proofs.Verdicts.{sized, groups-differ, stores-differ}
 use Rattle.slot_file.specs.Parts.{marksOf, annualTo, peakTo}
+use Rattle.slot_file.specs.declared.Counts.{Counts}
 use Rattle.totals.specs.Totals.{totalsOf, noNumbers, totalsIn, plusEmission, plusTo}
 use Rattle.totals.proofs.Forty.{plus-held, plus-to-held}
 use Rattle.totals.proofs.Sums.{same-totals, plus-emitted, plus-six}
@@ -65,38 +66,43 @@ module _ (s : List ℕ) where
       ∙ same-totals (λ (c : ℕ). a c + total (annualTo c) (listTo 6 x)) (λ (c : ℕ). unitsOf (annualTo c) s (groupsSoFar (g ∷ gs)))
       (λ (c : ℕ). p c + total (peakTo c) (listTo 6 x)) (λ (c : ℕ). unitsOf (peakTo c) s (groupsSoFar (g ∷ gs))) (omega arith) (omega arith)
 
-  group-marked : (gs : List ℕ) (g : ℕ) → marksTo s g (set (marksOf (reachedBy s gs)) g true) 6 ≡ marksOf (reachedBy s (g ∷ gs))
-  unfolding marksTo reachedBy
-  group-marked gs g = refl
+  slots-marked : (b : List ℕ) (g n : ℕ) → marksTo s g (set (marksOf b) g true) n ≡ marksOf (coefficientSlots s g n ++ g ∷ b)
+  unfolding marksTo coefficientSlots
+  slots-marked b g zero = refl
+  slots-marked b g (suc n) = ap (λ (l : List Bool). set l (coefficientSlot s g n) true) (slots-marked b g n)
+
+  group-marked : (gs : List ℕ) (g : ℕ) → marksTo s g (set (marksOf (reachedBy s gs)) g true) pollutantCount ≡ marksOf (reachedBy s (g ∷ gs))
+  unfolding reachedBy
+  group-marked gs g = slots-marked (reachedBy s gs) g pollutantCount
 
   module _ (h : AllYes (headAsks s)) where
-    pub groups-short : {gs : List ℕ} {link : ℕ} → Groups s (groupsSoFar gs) link → length gs < 1024
+    pub groups-short : {gs : List ℕ} {link : ℕ} → Groups s (groupsSoFar gs) link → length gs < mostSlots
     groups-short {gs} {link} w = different-short (slotCount s) gs (sized s h) (groups-differ s gs _ link (w .chain) (w .good))
 
-    pub groups-ended : {summing : Bool} {sources reached : List Bool} {totals : List ℕ} {holder link count : ℕ}
-        → GroupsPassed s summing sources reached totals holder link count → link ≡ 0 → GroupsEnded s summing sources reached totals count
-    groups-ended {summing} {sources} {reached} {totals} {holder} {link} {count} p z =
-        record { holder = holder; passed = subst (λ (k : ℕ). GroupsPassed s summing sources reached totals holder k count) z p }
+    pub groups-ended : {summing : Bool} {sources reached : List Bool} {totals : List ℕ} {holder link : ℕ} {counts : Counts}
+        → GroupsPassed s summing sources reached totals holder link counts → link ≡ 0 → GroupsEnded s summing sources reached totals counts
+    groups-ended {summing} {sources} {reached} {totals} {holder} {link} {counts} p z =
+        record { holder = holder; passed = subst (λ (k : ℕ). GroupsPassed s summing sources reached totals holder k counts) z p }
 
-    pub group-passed : {summing : Bool} {sources sources′ reached reached′ : List Bool} {totals totals′ : List ℕ} {holder link count : ℕ} {r : GroupStep}
-        → GroupsPassed s summing sources reached totals holder link count → (link ≡ 0 → ⊥)
+    pub group-passed : {summing : Bool} {sources sources′ reached reached′ : List Bool} {totals totals′ : List ℕ} {holder link : ℕ} {counts : Counts} {r : GroupStep}
+        → GroupsPassed s summing sources reached totals holder link counts → (link ≡ 0 → ⊥)
         → GroupStepped s holder link sources sources′ reached reached′ r → r .verdict .number ≡ 0
         → totals′ ≡ plusGroup summing totals (groupAnswer (r .group) (temperaturesAt s) (r .coefficients))
-        → GroupsPassed s summing sources′ reached′ totals′ link (r .next) (count + 1)
+        → GroupsPassed s summing sources′ reached′ totals′ link (r .next) (record { groups = counts .groups + 1; stores = counts .stores })
     unfolding plusGroup if_then_else
-    group-passed {summing} {totals = totals} {link = g} {r = r} p z t y d =
+    group-passed {summing} {totals = totals} {link = g} {counts} {r} p z t y d =
         let q = t .passed y in
         let h′ = p .holds in
+        let n : counts .groups + 1 ≡ length (g ∷ p .gs) = omega (arith, ap (λ (m : Counts). m .groups) (h′ .counts-are)) in
         let a = t .told (groupsSoFar (p .gs)) (h′ .sources-are) (p .holder-is) .all y in
         record {
           gs = g ∷ p .gs;
           chain = record { chain = (q .next, z, p .chain .chain); good = (a, p .chain .good) };
           holder-is = refl;
           holds = record {
-            groups-are = omega (arith, h′ .groups-are);
-            stores-are = refl;
+            counts-are = λ i. record { groups = n i; stores = h′ .counts-are i .stores };
             sources-are = q .source-marked ∙ ap (λ (l : List Bool). set l g true) (h′ .sources-are);
-            reached-are = q .slots-marked ∙ ap (λ (l : List Bool). marksTo s g (set l g true) 6) (h′ .reached-are) ∙ group-marked (p .gs) g;
+            reached-are = q .slots-marked ∙ ap (λ (l : List Bool). marksTo s g (set l g true) pollutantCount) (h′ .reached-are) ∙ group-marked (p .gs) g;
             room = ap length d ∙ group-room summing totals (groupAnswer (r .group) (temperaturesAt s) (r .coefficients)) (h′ .room);
             sums-are = λ e.
                 ap totalsIn d ∙ simp e
@@ -138,28 +144,29 @@ module _ (s : List ℕ) (a : Chains) (ss : List ℕ) where
       (λ (c : ℕ). v c + total (peakTo c) (storeContributions (storeAt s k))) (λ (c : ℕ). unitsOf (peakTo c) s d) (omega arith) (omega arith)
 
 module _ (s : List ℕ) (h : AllYes (headAsks s)) where
-  pub sources-short : (c : Chains) {link : ℕ} → Groups s c 0 → Stores s c link → length (sourcesOf (storesSoFar c (c .stores))) < 1024
+  pub sources-short : (c : Chains) {link : ℕ} → Groups s c 0 → Stores s c link → length (sourcesOf (storesSoFar c (c .stores))) < mostSlots
   sources-short c {link} v w =
       different-short (slotCount s) (sourcesOf (storesSoFar c (c .stores))) (sized s h) (stores-differ s c (c .stores) _ link (groups-differ s (c .groups) _ 0 (v .chain) (v .good)) (w .chain) (w .good))
 
-  pub stores-short : (c : Chains) {link : ℕ} → Groups s c 0 → Stores s c link → length (c .stores) < 1024
+  pub stores-short : (c : Chains) {link : ℕ} → Groups s c 0 → Stores s c link → length (c .stores) < mostSlots
   stores-short c v w = omega (arith, length-append (c .stores) (c .groups), sources-short c v w)
 
-  pub stores-ended : {summing : Bool} {sources reached : List Bool} {totals : List ℕ} {holder link groups stores : ℕ} {v : Verdict}
-      → StoresPassed s summing sources reached totals holder link groups stores → link ≡ 0
-      → StoresEnded s summing reached totals (record { verdict = v; groups = groups; stores = stores })
-  stores-ended {summing} {sources} {reached} {totals} {holder} {link} {groups} {stores} p z =
-      record { sources = sources; holder = holder; passed = subst (λ (k : ℕ). StoresPassed s summing sources reached totals holder k groups stores) z p }
+  pub stores-ended : {summing : Bool} {sources reached : List Bool} {totals : List ℕ} {holder link : ℕ} {counts : Counts} {v : Verdict}
+      → StoresPassed s summing sources reached totals holder link counts → link ≡ 0
+      → StoresEnded s summing reached totals (record { verdict = v; counts = counts })
+  stores-ended {summing} {sources} {reached} {totals} {holder} {link} {counts} p z =
+      record { sources = sources; holder = holder; passed = subst (λ (k : ℕ). StoresPassed s summing sources reached totals holder k counts) z p }
 
-  pub store-passed : {summing : Bool} {sources sources′ reached reached′ : List Bool} {totals totals′ : List ℕ} {holder link groups stores : ℕ} {r : StoreStep}
-      → StoresPassed s summing sources reached totals holder link groups stores → (link ≡ 0 → ⊥)
+  pub store-passed : {summing : Bool} {sources sources′ reached reached′ : List Bool} {totals totals′ : List ℕ} {holder link : ℕ} {counts : Counts} {r : StoreStep}
+      → StoresPassed s summing sources reached totals holder link counts → (link ≡ 0 → ⊥)
       → StoreStepped s holder link sources sources′ reached reached′ r → r .verdict .number ≡ 0
       → totals′ ≡ plusStore summing totals (r .read)
-      → StoresPassed s summing sources′ reached′ totals′ link (r .next) groups (stores + 1)
+      → StoresPassed s summing sources′ reached′ totals′ link (r .next) (record { groups = counts .groups; stores = counts .stores + 1 })
   unfolding plusStore if_then_else
-  store-passed {summing} {totals = totals} {link = k} {r = r} p z t y d =
+  store-passed {summing} {totals = totals} {link = k} {counts} {r} p z t y d =
       let q = t .passed y in
       let h′ = p .holds in
+      let n : counts .stores + 1 ≡ length (k ∷ p .c .stores) = omega (arith, ap (λ (m : Counts). m .stores) (h′ .counts-are)) in
       let a = t .told (storesSoFar (p .c) (p .c .stores)) (h′ .sources-are) (p .holder-is) .all y in
       record {
         c = storesSoFar (p .c) (k ∷ p .c .stores);
@@ -167,8 +174,7 @@ module _ (s : List ℕ) (h : AllYes (headAsks s)) where
         chain = record { chain = (q .next, z, p .chain .chain); good = (a, p .chain .good) };
         holder-is = refl;
         holds = record {
-          groups-are = h′ .groups-are;
-          stores-are = omega (arith, h′ .stores-are);
+          counts-are = λ i. record { groups = h′ .counts-are i .groups; stores = n i };
           sources-are = q .source-marked ∙ ap (λ (l : List Bool). set l k true) (h′ .sources-are);
           reached-are = q .slot-marked ∙ ap (λ (l : List Bool). set l k true) (h′ .reached-are);
           room = ap length d ∙ store-room summing totals (r .read) (h′ .room);

@@ -10,7 +10,7 @@ use borrow.Author.Tests.{not-true}
 use Rattle.sums.specs.Choice.{if_then_else}
 use Rattle.sums.proofs.Choices.{nth, allTo-of, listTo-at}
 use Rattle.stores.specs.Fields.{handlingInRange, standingInRange, aspirationInRange}
-use Rattle.vehicles.specs.Fields.{noCoefficients, groupInRange, coefficientsInRange, allInRange}
+use Rattle.vehicles.specs.Fields.{pollutantCount, noCoefficients, groupInRange, coefficientsInRange, allInRange}
 use Rattle.vehicles.specs.Rules.{inRange, notZero, emissionsOf, groupAnswer}
 use Rattle.slots.specs.Bytes.{byteAt, numberOf, zeroFrom, slotOf}
 use Rattle.slots.specs.Layout.{groupOf, groupGood, groupRead, coefficientsOf, coefficientsGood, coefficientsRead, handlingOf, handlingGood, standingOf, standingGood, aspirationOf, aspirationGood, storeKind, byKind, storeOf, storeGood, readStore}
@@ -39,22 +39,22 @@ module _ (s : List ℕ) (c : Chains) (g : ℕ) (a : AllYes (groupAsks s c g)) wh
       nth (groupInRange (groupOf t) ∷ leb (byteAt t 5) 3 ∷ zeroFrom t 36 28 ∷ [])
       (passed-read (eqb (byteAt t 2) 1) (groupGood t (groupOf t)) (a .1 .1 .0) (a .1 .1 .1 .0) .0) 0
 
-  pub row-in-range : (p : ℕ) → p < 6 → coefficientsInRange (getD (groupAt s g .coefficients) p noCoefficients) ≡ true
+  pub row-in-range : (p : ℕ) → p < pollutantCount → coefficientsInRange (getD (groupAt s g .coefficients) p noCoefficients) ≡ true
   unfolding groupAsks linkAsks coefficientAsks groupAt coefficientsRead coefficientsGood
   row-in-range p h =
       let t = slotOf s (coefficientSlot s g p) in
-      let r = row-yes s g 6 p h (all-left (rowsAsks s g 6) (closingAsks s g) (a .1 .1 .1 .1)) in
-      rw (listTo-at noCoefficients 6 (λ (n : ℕ). coefficientsOf (slotOf s (coefficientSlot s g n))) p h)
+      let r = row-yes s g pollutantCount p h (all-left (rowsAsks s g pollutantCount) (closingAsks s g) (a .1 .1 .1 .1)) in
+      rw (listTo-at noCoefficients pollutantCount (λ (n : ℕ). coefficientsOf (slotOf s (coefficientSlot s g n))) p h)
       (nth (coefficientsInRange (coefficientsOf t) ∷ zeroFrom t 32 32 ∷ [])
       (passed-read (eqb (byteAt t 2) 2) (coefficientsGood t (coefficientsOf t)) (r .1 .1 .0) (r .1 .1 .1 .0) .0) 0)
 
   rows-in-range : allInRange (groupAt s g .coefficients) ≡ true
   unfolding allInRange
-  rows-in-range = allTo-of 6 (λ (p : ℕ). coefficientsInRange (getD (groupAt s g .coefficients) p noCoefficients)) row-in-range
+  rows-in-range = allTo-of pollutantCount (λ (p : ℕ). coefficientsInRange (getD (groupAt s g .coefficients) p noCoefficients)) row-in-range
 
   zero-where-due : notZero (groupAt s g .group) (groupAt s g .coefficients) ≡ false
   unfolding groupAsks linkAsks closingAsks
-  zero-where-due = not-true _ (all-right (rowsAsks s g 6) (closingAsks s g) (a .1 .1 .1 .1) .1 .0)
+  zero-where-due = not-true _ (all-right (rowsAsks s g pollutantCount) (closingAsks s g) (a .1 .1 .1 .1) .1 .0)
 
   -- the group's rule answers what it gives
   pub group-answered : AllYes (headAsks s)

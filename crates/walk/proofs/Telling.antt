@@ -6,7 +6,7 @@ use mathlib.Core.Bool.{Bool, true, false}
 use mathlib.Core.List.{List, [], _∷_, _++_}
 use lib.ListN.{getD}
 use Rattle.sums.specs.declared.answer.Verdict.{Verdict}
-use Rattle.slot_file.specs.Questions.{Question, question, member, reachAsks}
+use Rattle.slot_file.specs.Questions.{mostSlots, Question, question, member, reachAsks}
 use Rattle.slot_file.specs.Meaning.{AllYes, FirstNo, here, later}
 use Rattle.slot_file.proofs.Marks.{marks-member}
 use Rattle.slot_file.specs.Parts.{marksOf}
@@ -49,7 +49,7 @@ pub told-after : {v : Verdict} (xs ys : List Question) → AllYes xs → Told ys
 told-after xs ys a t = record { all = λ y. all-append xs ys a (t .all y); first = λ z. no-after xs ys a (t .first z) }
 
 -- a mark says whether its slot is among those that the marks are of
-pub marked : (before : List ℕ) {marks : List Bool} (k : ℕ) {t : Bool} → marks ≡ marksOf before → (k ≡ 0 → ⊥) → k < 1024 → getD marks k false ≡ t → member k before ≡ t
+pub marked : (before : List ℕ) {marks : List Bool} (k : ℕ) {t : Bool} → marks ≡ marksOf before → (k ≡ 0 → ⊥) → k < mostSlots → getD marks k false ≡ t → member k before ≡ t
 marked before k m z h e = sym (marks-member before k (omega arith) h) ∙ ap (λ (l : List Bool). getD l k false) (sym m) ∙ e
 
 -- what the questions qs are told, all of them are: those before qs were answered yes

@@ -4,6 +4,7 @@ use mathlib.Core.Path.{_≡_}
 use mathlib.Core.Bool.{Bool, true}
 use mathlib.Core.List.{List}
 use lib.ListN.{set}
+use Rattle.vehicles.specs.Fields.{pollutantCount}
 use Rattle.slots.specs.Bytes.{slotOf}
 use Rattle.slots.specs.Layout.{nextOf, readStore}
 use Rattle.slot_file.specs.Sources.{groupAt, Chains}
@@ -20,7 +21,7 @@ pub record GroupPassed (s : List ℕ) (g : ℕ) (sources sources′ reached reac
   pub coefficients : r .coefficients ≡ groupAt s g .coefficients
   pub next : r .next ≡ nextOf (slotOf s g)
   pub source-marked : sources′ ≡ set sources g true
-  pub slots-marked : reached′ ≡ marksTo s g (set reached g true) 6
+  pub slots-marked : reached′ ≡ marksTo s g (set reached g true) pollutantCount
 
 pub record GroupStepped (s : List ℕ) (holder g : ℕ) (sources sources′ reached reached′ : List Bool) (r : GroupStep) : Type 0 where
   pub told : (c : Chains) → sources ≡ marksOf (sourcesOf c) → holder ≡ lastOf (c .groups) → Told (groupAsks s c g) (r .verdict)

@@ -8,6 +8,7 @@ use Rattle.sums.specs.Choice.{if_then_else}
 use Rattle.sums.specs.Answer.{Contribution, noEmission}
 use Rattle.sums.specs.declared.answer.Emission.{Emission}
 use Rattle.stores.specs.Rules.{handlingAnswer, standingAnswer, aspirationAnswer}
+use Rattle.vehicles.specs.Rules.{emissionCount}
 use Rattle.vehicles.specs.declared.rule.GroupAnswer.{GroupAnswer}
 use Rattle.slots.specs.Bytes.{slotOf}
 use Rattle.slots.specs.Layout.{headerOf}
@@ -19,10 +20,11 @@ use Rattle.slots.specs.declared.store.StoreRead.the-variants.{Record, WrongKind
 use Rattle.slot_file.specs.Sources.{groupAt, storeAt, temperaturesAt, Chains}
 use Rattle.slot_file.specs.Questions.{headAsks, lastOf, sourcesOf, reachedOf, groupsSoFar, storesSoFar}
 use Rattle.slot_file.specs.Meaning.{AllYes, Groups, Stores, Accepts, Refuses}
-use Rattle.slot_file.specs.Figures.{groupContributions, storeContributions}
+use Rattle.slot_file.specs.Figures.{groupContributions, storeContributions, countsOf}
 use Rattle.slot_file.specs.Alike.{total}
 use Rattle.slot_file.specs.Parts.{marksOf, annualTo, peakTo}
 use Rattle.totals.specs.Totals.{Totals, totalsOf, noNumbers, totalsIn, plusIn, plusToIn}
+use Rattle.slot_file.specs.declared.Counts.{Counts}
 use Rattle.walk.specs.declared.walked.Walked.{Walked}
 
 -- the units that the sources on the chains have together
@@ -35,16 +37,15 @@ abbrev pub sumsOf : List ℕ → Chains → Totals
 sumsOf s c = totalsOf (λ (k : ℕ). unitsOf (annualTo k) s c) (λ (k : ℕ). unitsOf (peakTo k) s c)
 
 -- WHAT THE WALK HOLDS after the sources on the chains so far: the marks of the sources and of all that they reach, their counts, and where sums are wanted their exact sums
-pub record Holds (s : List ℕ) (summing : Bool) (sources reached : List Bool) (totals : List ℕ) (groups stores : ℕ) (c : Chains) : Type 0 where
-  pub groups-are : groups ≡ length (c .groups)
-  pub stores-are : stores ≡ length (c .stores)
+pub record Holds (s : List ℕ) (summing : Bool) (sources reached : List Bool) (totals : List ℕ) (counts : Counts) (c : Chains) : Type 0 where
+  pub counts-are : counts ≡ countsOf c
   pub sources-are : sources ≡ marksOf (sourcesOf c)
   pub reached-are : reached ≡ marksOf (reachedOf s c)
   pub room : length totals ≡ 40
   pub sums-are : summing ≡ true → totalsIn totals ≡ sumsOf s c
 
 unfoldable pub plusGroup : Bool → List ℕ → GroupAnswer → List ℕ
-plusGroup summing l a = if_then_else summing (plusToIn l (a .emissions) 6) l
+plusGroup summing l a = if_then_else summing (plusToIn l (a .emissions) emissionCount) l
 
 -- where the group chain begins: questions 1 to 5 are answered yes, nothing is marked but slot 0 and nothing is summed
 pub record GroupsBegin (s : List ℕ) (sources reached : List Bool) (totals : List ℕ) (h : Header) : Type 0 where
@@ -55,20 +56,20 @@ pub record GroupsBegin (s : List ℕ) (sources reached : List Bool) (totals : Li
   pub none-summed : totals ≡ noNumbers
 
 -- the groups gs are passed, and the chain goes on at the link
-pub record GroupsPassed (s : List ℕ) (summing : Bool) (sources reached : List Bool) (totals : List ℕ) (holder link count : ℕ) : Type 0 where
+pub record GroupsPassed (s : List ℕ) (summing : Bool) (sources reached : List Bool) (totals : List ℕ) (holder link : ℕ) (counts : Counts) : Type 0 where
   pub gs : List ℕ
   pub chain : Groups s (groupsSoFar gs) link
   pub holder-is : holder ≡ lastOf gs
-  pub holds : Holds s summing sources reached totals count 0 (groupsSoFar gs)
+  pub holds : Holds s summing sources reached totals counts (groupsSoFar gs)
 
 -- and the chain is at its end
-pub record GroupsEnded (s : List ℕ) (summing : Bool) (sources reached : List Bool) (totals : List ℕ) (count : ℕ) : Type 0 where
+pub record GroupsEnded (s : List ℕ) (summing : Bool) (sources reached : List Bool) (totals : List ℕ) (counts : Counts) : Type 0 where
   pub holder : ℕ
-  pub passed : GroupsPassed s summing sources reached totals holder 0 count
+  pub passed : GroupsPassed s summing sources reached totals holder 0 counts
 
 pub record GroupsWalked (s : List ℕ) (summing : Bool) (sources reached : List Bool) (totals : List ℕ) (r : Walked) : Type 0 where
   pub refused : (r .verdict .number ≡ 0 → ⊥) → Refuses s (r .verdict .number) (r .verdict .slot)
-  pub ended : r .verdict .number ≡ 0 → GroupsEnded s summing sources reached totals (r .groups)
+  pub ended : r .verdict .number ≡ 0 → GroupsEnded s summing sources reached totals (r .counts)
 
 -- what a store record's rule answers
 unfoldable pub recordEmission : Store → Emission
@@ -88,21 +89,21 @@ plusStore summing l r = if_then_else summing (plusIn l (storeEmission r)) l
 pub record StoresBegin (s : List ℕ) (summing : Bool) (sources reached : List Bool) (totals : List ℕ) (h : Header) (start : Walked) : Type 0 where
   pub head : AllYes (headAsks s)
   pub header : h ≡ headerOf (slotOf s 0)
-  pub groups : GroupsEnded s summing sources reached totals (start .groups)
+  pub groups : GroupsEnded s summing sources reached totals (start .counts)
 
 -- the groups of c and the store records ss are passed, and the store chain goes on at the link
-pub record StoresPassed (s : List ℕ) (summing : Bool) (sources reached : List Bool) (totals : List ℕ) (holder link groups stores : ℕ) : Type 0 where
+pub record StoresPassed (s : List ℕ) (summing : Bool) (sources reached : List Bool) (totals : List ℕ) (holder link : ℕ) (counts : Counts) : Type 0 where
   pub c : Chains
   pub group-chain : Groups s c 0
   pub chain : Stores s c link
   pub holder-is : holder ≡ lastOf (c .stores)
-  pub holds : Holds s summing sources reached totals groups stores (storesSoFar c (c .stores))
+  pub holds : Holds s summing sources reached totals counts (storesSoFar c (c .stores))
 
 -- and both chains are at their ends
 pub record StoresEnded (s : List ℕ) (summing : Bool) (reached : List Bool) (totals : List ℕ) (r : Walked) : Type 0 where
   pub sources : List Bool
   pub holder : ℕ
-  pub passed : StoresPassed s summing sources reached totals holder 0 (r .groups) (r .stores)
+  pub passed : StoresPassed s summing sources reached totals holder 0 (r .counts)
 
 pub record StoresWalked (s : List ℕ) (summing : Bool) (reached : List Bool) (totals : List ℕ) (r : Walked) : Type 0 where
   pub refused : (r .verdict .number ≡ 0 → ⊥) → Refuses s (r .verdict .number) (r .verdict .slot)
@@ -114,7 +115,7 @@ pub record FileAccepted (s : List ℕ) (summing : Bool) (totals : List ℕ) (r :
   pub accepts : Accepts s c
   pub sources : List Bool
   pub reached : List Bool
-  pub holds : Holds s summing sources reached totals (r .groups) (r .stores) c
+  pub holds : Holds s summing sources reached totals (r .counts) c
 
 pub record FileWalked (s : List ℕ) (summing : Bool) (totals : List ℕ) (r : Walked) : Type 0 where
   pub refused : (r .verdict .number ≡ 0 → ⊥) → Refuses s (r .verdict .number) (r .verdict .slot)

@@ -9,15 +9,17 @@ ghost use Rattle.walk.specs.Walked.{FileWalked};
 use super::groups;
 use super::questions;
 use super::records;
+use super::walked;
 use super::walked::Walked;
 use slot_file::Answer;
+use slot_file::MOST_SLOTS;
 use sums::Verdict;
 
 // No slot is marked but slot 0.
-fn no_marks() -> [bool; 1024]
+fn no_marks() -> [bool; MOST_SLOTS]
     ensures { λ r. ⌜ r ≡ marksOf [] ⌝ }
 {
-    let mut marks = [false; 1024];
+    let mut marks = [false; MOST_SLOTS];
     marks[0] = true;
     marks
 }
@@ -32,8 +34,7 @@ fn walk_file(file: &[u8], totals: &mut [u64], summing: bool) -> Walked
     if verdict.number != 0 {
         return Walked {
             verdict,
-            groups: 0,
-            stores: 0,
+            counts: walked::no_counts(),
         };
     }
     let mut sources = no_marks();
@@ -48,10 +49,10 @@ fn walk_file(file: &[u8], totals: &mut [u64], summing: bool) -> Walked
     if verdict.number != 0 {
         return both;
     }
+    let counts = both.counts;
     Walked {
         verdict: questions::ask_reached(&reached, file.len() / 64),
-        groups: both.groups,
-        stores: both.stores,
+        counts,
     }
 }
 
@@ -81,12 +82,12 @@ pub fn answer(file: &[u8]) -> Answer
     let figures = totals::rounded(&totals);
     let annual = figures.annual;
     let peak = figures.peak;
+    let counts = walked.counts;
     Answer {
         number: 0,
         slot: 0,
         annual,
         peak,
-        groups: walked.groups,
-        stores: walked.stores,
+        counts,
     }
 }

@@ -1,35 +1,39 @@
 // The group chain.
 ghost use mathlib.Core.Path.{_≡_};
-ghost use Prim.Native.Nat.{_≤_};
+ghost use Prim.Native.Nat.{_*_, _≤_};
 ghost use lib.ListN.{length};
 ghost use Rattle.vehicles.specs.Rules.{groupAnswer};
+ghost use Rattle.slot_file.specs.Questions.{mostSlots};
 ghost use Rattle.walk.specs.Steps.{GroupStepped};
 ghost use Rattle.walk.specs.Walked.{plusGroup, GroupsBegin, GroupsWalked};
 use super::questions;
 use super::rows;
+use super::walked;
 use super::walked::Walked;
+use slot_file::MOST_SLOTS;
 use slots::Header;
 use sums::Verdict;
 use vehicles::Coefficients;
 use vehicles::Group;
+use vehicles::POLLUTANTS;
 
 // What a link to a group was told, the group with its coefficients, and the next link.
 pub(crate) struct GroupStep {
     pub(crate) verdict: Verdict,
     pub(crate) group: Group,
-    pub(crate) coefficients: [Coefficients; 6],
+    pub(crate) coefficients: [Coefficients; POLLUTANTS],
     pub(crate) next: u16,
 }
 
 // All that is asked of a link to a group. The group's slot is marked as a source, and it and its coefficient slots as reached.
 fn step_group(
     file: &[u8],
-    sources: &mut [bool; 1024],
-    reached: &mut [bool; 1024],
+    sources: &mut [bool; MOST_SLOTS],
+    reached: &mut [bool; MOST_SLOTS],
     holder: u16,
     link: u16,
 ) -> GroupStep
-    requires { ⌜ (length (now file) ≤ 65536) × (link ≡ 0 → ⊥) ⌝ }
+    requires { ⌜ (length (now file) ≤ 64 * mostSlots) × (link ≡ 0 → ⊥) ⌝ }
     ensures { λ r. ⌜ GroupStepped (now (file .entry)) holder link (now (sources .entry)) (now (sources .exit)) (now (reached .entry)) (now (reached .exit)) r ⌝ }
 {
     let k = link as usize;
@@ -73,8 +77,8 @@ fn add_group(totals: &mut [u64], summing: bool, temperatures: [i16; 12], step: G
 // The group chain, from slot 0 to a zero or to the first question that is answered no.
 pub(crate) fn walk_groups(
     file: &[u8],
-    sources: &mut [bool; 1024],
-    reached: &mut [bool; 1024],
+    sources: &mut [bool; MOST_SLOTS],
+    reached: &mut [bool; MOST_SLOTS],
     totals: &mut [u64],
     h: Header,
     summing: bool,
@@ -85,25 +89,20 @@ pub(crate) fn walk_groups(
     let temperatures = h.temperatures;
     let mut holder = 0;
     let mut link = h.groups;
-    let mut count = 0;
+    let mut counts = walked::no_counts();
     while link != 0 {
         let step = step_group(file, sources, reached, holder, link);
         let verdict = step.verdict;
         if verdict.number != 0 {
-            return Walked {
-                verdict,
-                groups: count,
-                stores: 0,
-            };
+            return Walked { verdict, counts };
         }
         add_group(totals, summing, temperatures, step);
         holder = link;
         link = step.next;
-        count += 1;
+        counts.groups += 1;
     }
     Walked {
         verdict: questions::accept(),
-        groups: count,
-        stores: 0,
+        counts,
     }
 }

@@ -1,16 +1,18 @@
 // The questions in order: of a list of them, the number and the slot of the first that is answered no, or 0 and 0.
 ghost use mathlib.Core.Path.{_≡_};
-ghost use Prim.Native.Nat.{_≤_};
+ghost use Prim.Native.Nat.{_*_, _≤_};
 ghost use lib.ListN.{length};
 ghost use Rattle.slots.specs.Bytes.{slotOf};
 ghost use Rattle.slots.specs.Layout.{headerOf};
-ghost use Rattle.slot_file.specs.Questions.{headAsks};
+ghost use Rattle.slot_file.specs.Questions.{mostSlots, headAsks};
 ghost use Rattle.walk.specs.Told.{Told, LinkTold, RowTold, SootTold, ReachTold};
+use slot_file::MOST_SLOTS;
 use slots::CoefficientsRead;
 use slots::Header;
 use sums::Verdict;
 use vehicles::Coefficients;
 use vehicles::Group;
+use vehicles::POLLUTANTS;
 
 pub(crate) fn accept() -> Verdict
     ensures { λ r. ⌜ r ≡ record { number = 0; slot = 0 } ⌝ }
@@ -24,13 +26,16 @@ pub(crate) fn refuse(number: u8, slot: u16) -> Verdict
     Verdict { number, slot }
 }
 
+// The bytes of a file at most.
+const MOST_BYTES: usize = 64 * MOST_SLOTS;
+
 // Questions 1 to 5, of the file and its slot 0.
 pub(crate) fn ask_head(file: &[u8], h: Header) -> Verdict
     requires { ⌜ h ≡ headerOf (slotOf (now file) 0) ⌝ }
     ensures { λ r. ⌜ Told (headAsks (now (file .entry))) r ⌝ }
 {
     let n = file.len();
-    let whole = (64 <= n) & (n <= 65_536) & (n % 64 == 0);
+    let whole = (64 <= n) & (n <= MOST_BYTES) & (n % 64 == 0);
     if !whole {
         return refuse(1, 0);
     }
@@ -53,12 +58,12 @@ pub(crate) fn ask_head(file: &[u8], h: Header) -> Verdict
 // Questions 6 to 9, of a link to a group or store record: `number` is what the slot's read answers of 8 and 9.
 pub(crate) fn ask_link(
     file: &[u8],
-    sources: &[bool; 1024],
+    sources: &[bool; MOST_SLOTS],
     holder: u16,
     link: u16,
     number: u8,
 ) -> Verdict
-    requires { ⌜ length (now file) ≤ 65536 ⌝ }
+    requires { ⌜ length (now file) ≤ 64 * mostSlots ⌝ }
     ensures { λ r. ⌜ LinkTold (now (file .entry)) (now (sources .entry)) holder link number r ⌝ }
 {
     let k = link as usize;
@@ -109,7 +114,7 @@ pub(crate) fn ask_row(
 pub(crate) fn ask_soot_and_lead(
     before: Verdict,
     group: Group,
-    coefficients: [Coefficients; 6],
+    coefficients: [Coefficients; POLLUTANTS],
     link: u16,
 ) -> Verdict
     ensures { λ r. ⌜ SootTold before group coefficients link r ⌝ }
@@ -124,8 +129,8 @@ pub(crate) fn ask_soot_and_lead(
 }
 
 // Question 12, of each slot from 1 up.
-pub(crate) fn ask_reached(reached: &[bool; 1024], count: usize) -> Verdict
-    requires { ⌜ count ≤ 1024 ⌝ }
+pub(crate) fn ask_reached(reached: &[bool; MOST_SLOTS], count: usize) -> Verdict
+    requires { ⌜ count ≤ mostSlots ⌝ }
     ensures { λ r. ⌜ ReachTold (now (reached .entry)) count r ⌝ }
 {
     let mut i = 1;

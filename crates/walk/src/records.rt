@@ -1,12 +1,14 @@
 // The store chain.
 ghost use mathlib.Core.Path.{_≡_};
-ghost use Prim.Native.Nat.{_≤_};
+ghost use Prim.Native.Nat.{_*_, _≤_};
 ghost use lib.ListN.{length};
 ghost use Rattle.slots.specs.Layout.{readNumber};
+ghost use Rattle.slot_file.specs.Questions.{mostSlots};
 ghost use Rattle.walk.specs.Steps.{StoreStepped};
 ghost use Rattle.walk.specs.Walked.{recordEmission, storeEmission, plusStore, StoresBegin, StoresWalked};
 use super::questions;
 use super::walked::Walked;
+use slot_file::MOST_SLOTS;
 use slots::Header;
 use slots::Store;
 use slots::StoreRead;
@@ -33,12 +35,12 @@ fn number_of(read: StoreRead) -> u8
 // All that is asked of a link to a store record. Its slot is marked as a source and as reached.
 fn step_store(
     file: &[u8],
-    sources: &mut [bool; 1024],
-    reached: &mut [bool; 1024],
+    sources: &mut [bool; MOST_SLOTS],
+    reached: &mut [bool; MOST_SLOTS],
     holder: u16,
     link: u16,
 ) -> StoreStep
-    requires { ⌜ (length (now file) ≤ 65536) × (link ≡ 0 → ⊥) ⌝ }
+    requires { ⌜ (length (now file) ≤ 64 * mostSlots) × (link ≡ 0 → ⊥) ⌝ }
     ensures { λ r. ⌜ StoreStepped (now (file .entry)) holder link (now (sources .entry)) (now (sources .exit)) (now (reached .entry)) (now (reached .exit)) r ⌝ }
 {
     let k = link as usize;
@@ -101,8 +103,8 @@ fn add_store(totals: &mut [u64], summing: bool, read: StoreRead)
 // The store chain, after the groups, from slot 0 to a zero or to the first question that is answered no.
 pub(crate) fn walk_stores(
     file: &[u8],
-    sources: &mut [bool; 1024],
-    reached: &mut [bool; 1024],
+    sources: &mut [bool; MOST_SLOTS],
+    reached: &mut [bool; MOST_SLOTS],
     totals: &mut [u64],
     h: Header,
     summing: bool,
@@ -111,29 +113,23 @@ pub(crate) fn walk_stores(
     requires { ⌜ StoresBegin (now file) summing (now sources) (now reached) (now totals) h start ⌝ }
     ensures { λ r. ⌜ StoresWalked (now (file .entry)) summing (now (reached .exit)) (now (totals .exit)) r ⌝ }
 {
-    let groups = start.groups;
+    let mut counts = start.counts;
     let mut holder = 0;
     let mut link = h.stores;
-    let mut count = 0;
     while link != 0 {
         let step = step_store(file, sources, reached, holder, link);
         let verdict = step.verdict;
         if verdict.number != 0 {
-            return Walked {
-                verdict,
-                groups,
-                stores: count,
-            };
+            return Walked { verdict, counts };
         }
         let read = step.read;
         add_store(totals, summing, read);
         holder = link;
         link = step.next;
-        count += 1;
+        counts.stores += 1;
     }
     Walked {
         verdict: questions::accept(),
-        groups,
-        stores: count,
+        counts,
     }
 }

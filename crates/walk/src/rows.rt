@@ -1,21 +1,27 @@
-// A group's six coefficient slots.
+// A group's coefficient slots.
 ghost use mathlib.Core.Path.{_≡_};
-ghost use Prim.Native.Nat.{_≤_};
+ghost use Prim.Native.Nat.{_*_, _≤_};
 ghost use lib.ListN.{length};
 ghost use Rattle.slots.specs.Bytes.{slotOf};
 ghost use Rattle.slots.specs.Layout.{groupRead, coefficientsRead};
+ghost use Rattle.slot_file.specs.Questions.{mostSlots};
 ghost use Rattle.walk.specs.Rows.{RowsRead};
 use super::questions;
+use slot_file::MOST_SLOTS;
 use slots::CoefficientsRead;
 use sums::Verdict;
 use vehicles::Coefficients;
+use vehicles::POLLUTANTS;
 use vehicles::PerKilometre;
 use vehicles::PerMinute;
 
-// What the coefficient links were told, and the six rows of coefficients.
+// One for each pollutant.
+const ROWS: u8 = POLLUTANTS as u8;
+
+// What the coefficient links were told, and the rows of coefficients.
 pub(crate) struct Rows {
     pub(crate) verdict: Verdict,
-    pub(crate) coefficients: [Coefficients; 6],
+    pub(crate) coefficients: [Coefficients; POLLUTANTS],
 }
 
 fn slot_index(link: u16) -> usize
@@ -38,20 +44,20 @@ fn row_at(file: &[u8], link: u16) -> CoefficientsRead
     slots::read_coefficients(file, link as usize)
 }
 
-pub(crate) fn no_rows() -> [Coefficients; 6] {
-    [no_row(); 6]
+pub(crate) fn no_rows() -> [Coefficients; POLLUTANTS] {
+    [no_row(); POLLUTANTS]
 }
 
 // The coefficient links of the group g, from `first` on; each slot is marked as reached.
-pub(crate) fn read_rows(file: &[u8], reached: &mut [bool; 1024], g: u16, first: u16) -> Rows
-    requires { ⌜ (length (now file) ≤ 65536) × (first ≡ groupRead (slotOf (now file) g) .first) ⌝ }
+pub(crate) fn read_rows(file: &[u8], reached: &mut [bool; MOST_SLOTS], g: u16, first: u16) -> Rows
+    requires { ⌜ (length (now file) ≤ 64 * mostSlots) × (first ≡ groupRead (slotOf (now file) g) .first) ⌝ }
     ensures { λ r. ⌜ RowsRead (now (file .entry)) g (now (reached .entry)) (now (reached .exit)) r ⌝ }
 {
     let mut coefficients = no_rows();
     let mut holder = g;
     let mut link = first;
     let mut n: u8 = 0;
-    while n < 6 {
+    while n < ROWS {
         let row = row_at(file, link);
         let verdict = questions::ask_row(file, holder, link, n, row);
         if verdict.number != 0 {

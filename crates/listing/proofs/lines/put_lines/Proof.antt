@@ -7,8 +7,9 @@ use mathlib.Core.List.{List, _++_}
 use Prim.Native.Nat.{ℕ, _+_, _-_, _*_, _<_, _≤_}
 use lib.ListN.{length, drop, getD}
 use lib.Seq.{drop-cons, getD-drop, drop-drop}
-use Rattle.slot_file.specs.Figures.{codes}
+use Rattle.slot_file.specs.Codes.{codes, codeCount}
 use Rattle.slot_file.specs.Listing.{line, lines}
+use Rattle.listing.specs.Text.{lineMost}
 use Rattle.listing.proofs.Writing.{Due, turn, done}
 use Rattle.listing.proofs.lines.put_lines.Statement.{statement}
 use Rattle.listing.proofs.lines.put_lines.Tie as tie
@@ -21,10 +22,10 @@ unfolding linesFrom lines
 next cs annual peak i h = rw (drop-cons cs i 0) (simp (getD-drop, drop-drop, add-one, add-zero))
 
 abbrev Inv-loop : tie.InvT-loop
-Inv-loop out₀ from a at₀ i₀ out at i = (i ≤ 10) × (at ≤ from + 49 * i) × Due out₀ from (lines codes (a .annual) (a .peak)) out at (linesFrom codes (a .annual) (a .peak) i)
+Inv-loop out₀ from a at₀ i₀ out at i = (i ≤ codeCount) × (at ≤ from + lineMost * i) × Due out₀ from (lines codes (a .annual) (a .peak)) out at (linesFrom codes (a .annual) (a .peak) i)
 
 abbrev μ-loop : tie.MeasureT-loop
-μ-loop out₀ from a at₀ i₀ out at i = 10 - i
+μ-loop out₀ from a at₀ i₀ out at i = codeCount - i
 
 loop-holds : tie.Need-loop-holds Inv-loop μ-loop
 unfolding linesFrom
@@ -32,15 +33,16 @@ loop-holds c = (omega arith, omega arith, record { same = refl; ends = refl })
 
 loop-again : tie.Need-loop-again Inv-loop μ-loop
 loop-again c =
-    let b = c .before .before .before .before .before in
+    let b = c .before .before .before .before .before .before in
     let a = b .before .args .t3 in
-    (omega arith, omega arith, turn (b .loop .inv .2) (next codes (a .annual) (a .peak) (b .loop .i) (omega arith)) (c .put-line .ensures .0))
+    let l = rw (c .before .before .before .before .code-at .ensures) at (c .put-line .ensures .0) in
+    (omega arith, omega arith, turn (b .loop .inv .2) (next codes (a .annual) (a .peak) (b .loop .i) (omega arith)) l)
 
 returns : tie.Need-returns Inv-loop μ-loop
 unfolding linesFrom lines
 returns c =
     let b = c .before in
-    let e : b .loop .i ≡ 10 = omega arith in
+    let e : b .loop .i ≡ codeCount = omega arith in
     (done (b .loop .inv .2) (rw e), omega arith)
 
 pub put-lines-spec : {M : Type 1} → statement M

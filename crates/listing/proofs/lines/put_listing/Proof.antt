@@ -12,7 +12,7 @@ returns c =
     let l = s .before .before .before in
     let h = l .before .before in
     let a = h .before .before .before .args .a in
-    (paired (a .groups) (a .stores) (then (then (h .put-text .ensures) (l .put-lines .ensures .0)) (s .put-text2 .ensures)) (c .put-pair .ensures .0), omega arith)
+    (paired (a .counts .groups) (a .counts .stores) (then (then (h .put-text .ensures) (l .put-lines .ensures .0)) (s .put-text2 .ensures)) (c .put-pair .ensures .0), omega arith)
 
 pub put-listing-spec : {M : Type 1} → statement M
 put-listing-spec =

@@ -1,7 +1,8 @@
--- The numbers of the answer, of which there are 32.
+-- The numbers of the answer, as many as there are.
 use native.Mathlib.Omega.{arith}
 use mathlib.Core.Path.{_≡_}
 use lib.ListN.{length}
+use Rattle.tezhebul.specs.Numbers.{groupSize}
 use Rattle.tezhebul.proofs.rules.give_group.Statement.{statement}
 use Rattle.tezhebul.proofs.rules.give_group.Tie as tie
 
@@ -9,7 +10,7 @@ returns : tie.Need-returns
 returns c =
     let b = c .before .before .before .before .before in
     let g = c .before .before .give .ensures in
-    let e : length (b .group-numbers .result) ≡ 32 = omega arith in
+    let e : length (b .group-numbers .result) ≡ groupSize = omega arith in
     (rw e at (g .0), rw (b .group-numbers .ensures) at (g .1))
 
 pub give-group-spec : {M : Type 1} → statement M

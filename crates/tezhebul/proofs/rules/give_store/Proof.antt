@@ -1,4 +1,4 @@
--- The numbers of the answer, of which there are 7.
+-- The numbers of the answer, as many as there are.
 use native.Mathlib.Omega.{arith}
 use Rattle.tezhebul.proofs.rules.give_store.Statement.{statement}
 use Rattle.tezhebul.proofs.rules.give_store.Tie as tie

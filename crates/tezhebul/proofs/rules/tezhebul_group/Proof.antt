@@ -1,7 +1,7 @@
 -- The lengths choose; where they are right, the numbers of the rule's answer.
 use native.Mathlib.Omega.{arith}
 use borrow.Author.Tests.{eqb-true}
-use Prim.Native.Nat.{ℕ}
+use Prim.Native.Nat.{ℕ, _*_}
 use mathlib.Core.Path.{_≡_, refl, sym, _∙_}
 use mathlib.Core.Bool.{true}
 use mathlib.Core.List.{List}
@@ -9,15 +9,16 @@ use lib.IntN.{ℤ}
 use lib.ListN.{length}
 use Rattle.sums.specs.Choice.{if_then_else}
 use Rattle.sums.proofs.Choices.{nth}
-use Rattle.tezhebul.specs.Fields.{lengthTests, lengths}
+use Rattle.vehicles.specs.Fields.{pollutantCount}
+use Rattle.tezhebul.specs.Fields.{rowSize, lengthTests, lengths}
 use Rattle.tezhebul.proofs.rules.tezhebul_group.Statement.{statement}
 use Rattle.tezhebul.proofs.rules.tezhebul_group.Tie as tie
 
-right : (d ds : List ℕ) (ts : List ℤ) (ks : List ℕ) → lengths d ds ts ks ≡ true → (length d ≡ 4) × (length ds ≡ 12) × (length ts ≡ 12) × (length ks ≡ 42)
+right : (d ds : List ℕ) (ts : List ℤ) (ks : List ℕ) → lengths d ds ts ks ≡ true → (length d ≡ 4) × (length ds ≡ 12) × (length ts ≡ 12) × (length ks ≡ rowSize * pollutantCount)
 unfolding lengths
 right d ds ts ks h =
     let t = nth (lengthTests d ds ts ks) h in
-    (eqb-true (length d) 4 (t 0), eqb-true (length ds) 12 (t 1), eqb-true (length ts) 12 (t 2), eqb-true (length ks) 42 (t 3))
+    (eqb-true (length d) 4 (t 0), eqb-true (length ds) 12 (t 1), eqb-true (length ts) 12 (t 2), eqb-true (length ks) (rowSize * pollutantCount) (t 3))
 
 group-of-requires : tie.Need-group-of-requires
 group-of-requires c κs = let l = right _ _ _ _ (sym (c .before .right-lengths .ensures) ∙ c .if1 .taken) in (l .0, l .1)

@@ -9,7 +9,7 @@ use mir.Facts.{toZ-ofZ}
 use Rattle.sums.specs.Answer.{noEmission}
 use Rattle.sums.proofs.Choices.{filled, listTo-is}
 use Rattle.vehicles.specs.Fields.{noCoefficients}
-use Rattle.vehicles.specs.Rules.{emissionOf, emissionsOf}
+use Rattle.vehicles.specs.Rules.{emissionOf, emissionCount, emissionsOf}
 use Rattle.vehicles.specs.Parts.{emissionParts}
 use Rattle.vehicles.proofs.Ranges.{of-six}
 use Rattle.vehicles.proofs.Periods.{activity-in-range}
@@ -19,11 +19,11 @@ use Rattle.vehicles.proofs.rule.emissions_of.Tie as tie
 
 abbrev Inv-loop : tie.InvT-loop
 Inv-loop g ks a coldest emissions₀ p₀ emissions p =
-    (p ≤ 6) × (length emissions ≡ 6)
+    (p ≤ emissionCount) × (length emissions ≡ emissionCount)
     × ((m : ℕ) → m < p → getD emissions m noEmission ≡ emissionParts g (getD ks m noCoefficients) m a coldest)
 
 abbrev μ-loop : tie.MeasureT-loop
-μ-loop g ks a coldest emissions₀ p₀ emissions p = 6 - p
+μ-loop g ks a coldest emissions₀ p₀ emissions p = emissionCount - p
 
 loop-holds : tie.Need-loop-holds Inv-loop μ-loop
 loop-holds c = (omega arith, refl, λ m q. absurd (omega arith))
@@ -55,9 +55,9 @@ unfolding emissionsOf
 returns c =
     let b = c .before in
     let s = b .before .before .before .before .before .args in
-    let e : b .loop .p ≡ 6 = omega arith in
+    let e : b .loop .p ≡ emissionCount = omega arith in
     let x = toZ-ofZ {w = w16} {z = b .before .before .before .lowest .result} (search needs) in
-    listTo-is noEmission 6 (b .loop .emissions) (λ (m : ℕ). emissionOf (s .g) (s .ts) (getD (s .t3) m noCoefficients) m) (b .loop .inv .1)
+    listTo-is noEmission emissionCount (b .loop .emissions) (λ (m : ℕ). emissionOf (s .g) (s .ts) (getD (s .t3) m noCoefficients) m) (b .loop .inv .1)
     (λ m q.
     (rw e at (b .loop .inv .2)) m q
     ∙ rw (b .before .before .before .before .activity-of .ensures, b .before .before .conditions-at .ensures .0, x, b .before .before .before .lowest .ensures)

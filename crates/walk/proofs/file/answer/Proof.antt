@@ -1,13 +1,11 @@
 -- A refused walk is answered its refusal; the sums of an accepted file have the figures of its exact sums (`FileFigures`), and its counts are the chains' lengths.
 use native.Mathlib.Omega.{arith}
 use mathlib.Core.Path.{refl, sym, ap, _∙_}
-use mathlib.Core.List.{reverse}
-use lib.ListN.{length-map, length-reverse}
-use Rattle.slot_file.specs.Sources.{groupAt, storeAt, inventoryAt}
 use Rattle.slot_file.specs.Questions.{accepted, refused}
 use Rattle.slot_file.specs.Figures.{summed}
 use Rattle.slot_file.proofs.Verdicts.{only}
 use Rattle.slot_file.proofs.Numbers.{refused-answer}
+use Rattle.slot_file.proofs.Rounded.{summed-counts}
 use Rattle.slot_file.proofs.Agreement.{accepted-answer}
 use Rattle.totals.specs.Totals.{figuresOf}
 use Rattle.totals.proofs.Forty.{figures-held}
@@ -23,15 +21,14 @@ returns c =
     c .refusal .ensures ∙ sym (refused-answer s (v .number) (v .slot) (only s (refused (v .number) (v .slot)) (w .walk-file .ensures .refused (c .before .if1 .taken))) .0)
 
 returns-2 : tie.Need-returns-2
-unfolding summed inventoryAt
+unfolding summed
 returns-2 c =
-    let w = c .before .before .before .before .before .before .before .before in
+    let w = c .before .before .before .before .before .before .before .before .before in
     let s = w .before .before .before .before .args .file .now in
-    let a = w .walk-file .ensures .accepted (c .before .before .before .before .if1 .left) in
-    let f = c .before .before .rounded .ensures ∙ figures-held _ (a .holds .room) ∙ ap figuresOf (a .holds .sums-are refl) ∙ file-figures s (a .c) (a .accepts) in
-    let g = a .holds .groups-are ∙ sym (length-map (reverse (a .c .groups)) (groupAt s) ∙ length-reverse (a .c .groups)) in
-    let k = a .holds .stores-are ∙ sym (length-map (reverse (a .c .stores)) (storeAt s) ∙ length-reverse (a .c .stores)) in
-    (λ i. record { number = 0; slot = 0; annual = f i .annual; peak = f i .peak; groups = g i; stores = k i })
+    let a = w .walk-file .ensures .accepted (c .before .before .before .before .before .if1 .left) in
+    let f = c .before .before .before .rounded .ensures ∙ figures-held _ (a .holds .room) ∙ ap figuresOf (a .holds .sums-are refl) ∙ file-figures s (a .c) (a .accepts) in
+    let n = a .holds .counts-are ∙ sym (summed-counts s (a .c)) in
+    (λ i. record { number = 0; slot = 0; annual = f i .annual; peak = f i .peak; counts = n i })
     ∙ sym (accepted-answer s (a .c) (only s (accepted (a .c)) (a .accepts)))
 
 pub answer-spec : {M : Type 1} → statement M

@@ -7,7 +7,7 @@ use Rattle.walk.proofs.file.walk_file.Statement.{statement}
 use Rattle.walk.proofs.file.walk_file.Tie as tie
 
 returns : tie.Need-returns
-returns c = record { refused = λ z. at-head (c .before .before .ask-head .ensures .first z); accepted = λ y. absurd (c .if1 .taken y) }
+returns c = record { refused = λ z. at-head (c .before .before .before .ask-head .ensures .first z); accepted = λ y. absurd (c .before .if1 .taken y) }
 
 walk-groups-requires : tie.Need-walk-groups-requires
 walk-groups-requires c κs =
@@ -37,14 +37,14 @@ returns-3 : tie.Need-returns-3
 returns-3 c = record { refused = c .before .before .before .before .before .walk-stores .ensures .refused; accepted = λ y. absurd (c .if3 .taken y) }
 
 ask-reached-requires : tie.Need-ask-reached-requires
-ask-reached-requires c κs = let b = c .before .before .before .before .before .before .before .before .before .before .before .before .before .before .before .before .before .before .before .before .before in sized _ (b .before .before .ask-head .ensures .all (b .if1 .left))
+ask-reached-requires c κs = let b = c .before .before .before .before .before .before .before .before .before .before .before .before .before .before .before .before .before .before .before .before .before .before in sized _ (b .before .before .ask-head .ensures .all (b .if1 .left))
 
 returns-4 : tie.Need-returns-4
 unfolding lastAsks
 returns-4 c =
-    let b = c .before .before .before .before .before .before .before .before .before .before .before .before .before .before .before .before .before .before .before .before .before .before in
+    let b = c .before .before .before .before .before .before .before .before .before .before .before .before .before .before .before .before .before .before .before .before .before .before .before in
     let h = b .before .before .ask-head .ensures .all (b .if1 .left) in
-    let p = c .before .before .before .before .before .before .before .walk-stores .ensures .ended (c .before .before .if3 .left) .passed in
+    let p = c .before .before .before .before .before .before .before .before .walk-stores .ensures .ended (c .before .before .before .if3 .left) .passed in
     let t = c .ask-reached .ensures _ (p .holds .reached-are) in
     record {
       refused = λ z. at-last (p .c) h (p .group-chain) (p .chain) (t .first z);
@@ -60,5 +60,5 @@ returns-4 c =
 pub walk-file-spec : {M : Type 1} → statement M
 walk-file-spec =
     tie.close
-    (tie.spec (omega arith) (λ c κs. c .read-header .ensures) returns (omega arith) (omega arith) walk-groups-requires (omega arith) returns-2
+    (tie.spec (omega arith) (λ c κs. c .read-header .ensures) (omega arith) returns (omega arith) (omega arith) walk-groups-requires (omega arith) returns-2
     walk-stores-requires (omega arith) returns-3 ask-reached-requires (omega arith) returns-4)

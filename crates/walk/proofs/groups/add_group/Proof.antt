@@ -2,6 +2,7 @@
 use native.Mathlib.Omega.{arith}
 use mathlib.Core.Path.{refl, ap, _∙_}
 use Rattle.sums.proofs.Choices.{yes, no}
+use Rattle.vehicles.specs.Rules.{emissionCount}
 use Rattle.vehicles.specs.declared.rule.GroupAnswer.{GroupAnswer}
 use Rattle.totals.specs.Totals.{plusToIn}
 use Rattle.walk.specs.Walked.{plusGroup}
@@ -15,7 +16,7 @@ returns c =
     let g = a .before .before .before in
     let b = g .before .before .before in
     let l = b .before .before .args .totals .now in
-    yes _ _ _ _ (b .if1 .taken) (a .add-all .ensures ∙ ap (λ (r : GroupAnswer). plusToIn l (r .emissions) 6) (g .group-emissions .ensures))
+    yes _ _ _ _ (b .if1 .taken) (a .add-all .ensures ∙ ap (λ (r : GroupAnswer). plusToIn l (r .emissions) emissionCount) (g .group-emissions .ensures))
 
 returns-2 : tie.Need-returns-2
 unfolding plusGroup

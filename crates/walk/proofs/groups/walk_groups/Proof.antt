@@ -1,5 +1,5 @@
 -- After each step the groups passed are a chain of which every question is answered yes, with its marks and its sums (`Passing`); a chain of different slots
--- below 1,024 ends.
+-- ends.
 use native.Mathlib.Omega.{arith}
 use Prim.Native.Nat.{_-_}
 use mathlib.Core.Path.{refl, sym, ap, _∙_}
@@ -10,9 +10,10 @@ use Rattle.sums.specs.declared.answer.Verdict.{Verdict}
 use Rattle.vehicles.specs.Rules.{groupAnswer}
 use Rattle.slots.specs.declared.header.Header.{Header}
 use Rattle.slot_file.specs.Sources.{temperaturesAt}
-use Rattle.slot_file.specs.Questions.{reachedBy, groupsSoFar}
+use Rattle.slot_file.specs.Questions.{mostSlots, reachedBy, groupsSoFar}
 use Rattle.slot_file.specs.Meaning.{at-group}
 use Rattle.slot_file.proofs.Verdicts.{bytes-most}
+use Rattle.slot_file.specs.declared.Counts.{Counts}
 use Rattle.totals.specs.Totals.{totalsIn}
 use Rattle.walk.specs.Walked.{plusGroup, GroupsPassed}
 use Rattle.walk.proofs.Passing.{no-sums, groups-short, groups-ended, group-passed}
@@ -20,35 +21,34 @@ use Rattle.walk.proofs.groups.walk_groups.Statement.{statement}
 use Rattle.walk.proofs.groups.walk_groups.Tie as tie
 
 abbrev Inv-loop : tie.InvT-loop
-Inv-loop file sources₀ reached₀ totals₀ summing temperatures holder₀ link₀ count₀ sources reached totals holder link count =
-    GroupsPassed file summing sources reached totals holder link count
+Inv-loop file sources₀ reached₀ totals₀ summing temperatures holder₀ link₀ counts₀ sources reached totals holder link counts =
+    GroupsPassed file summing sources reached totals holder link counts
 
 abbrev μ-loop : tie.MeasureT-loop
-μ-loop file sources₀ reached₀ totals₀ summing temperatures holder₀ link₀ count₀ sources reached totals holder link count = 1024 - count
+μ-loop file sources₀ reached₀ totals₀ summing temperatures holder₀ link₀ counts₀ sources reached totals holder link counts = mostSlots - counts .groups
 
 loop-holds : tie.Need-loop-holds Inv-loop μ-loop
 unfolding reachedBy
 loop-holds c =
-    let b = c .before .before .before .pre in
+    let b = c .before .before .before .before .pre in
     record {
       gs = [];
       chain = record { chain = ap (λ (h : Header). h .groups) (b .header); good = tt };
       holder-is = refl;
       holds = record {
-        groups-are = refl;
-        stores-are = refl;
+        counts-are = c .no-counts .ensures;
         sources-are = b .none-marked;
         reached-are = b .none-reached;
         room = ap length (b .none-summed);
-        sums-are = λ _. ap totalsIn (b .none-summed) ∙ no-sums (c .before .before .before .args .file .now);
+        sums-are = λ _. ap totalsIn (b .none-summed) ∙ no-sums (c .before .before .before .before .args .file .now);
       };
     }
 
 step-group-requires : tie.Need-step-group-requires Inv-loop μ-loop
-step-group-requires c κs = (bytes-most _ (c .before .before .before .before .before .before .before .pre .head), c .before .before .loop-test .taken)
+step-group-requires c κs = (bytes-most _ (c .before .before .before .before .before .before .before .before .pre .head), c .before .before .loop-test .taken)
 
 same-length : tie.Need-same-length Inv-loop μ-loop
-same-length c = c .before .before .before .before .before .before .before .loop .inv .holds .room ∙ sym (ap length (c .before .before .before .before .before .before .before .before .before .before .before .pre .none-summed))
+same-length c = c .before .before .before .before .before .before .before .loop .inv .holds .room ∙ sym (ap length (c .before .before .before .before .before .before .before .before .before .before .before .before .pre .none-summed))
 
 returns : tie.Need-returns Inv-loop μ-loop
 returns c =
@@ -56,44 +56,44 @@ returns c =
     let p = b .loop .inv in
     let t = c .before .before .before .step-group .ensures in
     record {
-      refused = λ z. at-group (groupsSoFar (p .gs)) (b .loop .link) (b .before .before .before .before .pre .head) (p .chain) (c .before .before .before .before .before .before .loop-test .taken)
+      refused = λ z. at-group (groupsSoFar (p .gs)) (b .loop .link) (b .before .before .before .before .before .pre .head) (p .chain) (c .before .before .before .before .before .before .loop-test .taken)
           (t .told (groupsSoFar (p .gs)) (p .holds .sources-are) (p .holder-is) .first z);
       ended = λ y. absurd (c .if1 .taken y);
     }
 
-add-count : tie.Need-add-count Inv-loop μ-loop
-add-count c =
-    let b = c .before .before .before .before .before .before .before .before .before .before .before in
-    omega (arith, groups-short _ (b .before .before .before .before .pre .head) (b .loop .inv .chain), b .loop .inv .holds .groups-are)
+add-counts : tie.Need-add-counts Inv-loop μ-loop
+add-counts c =
+    let b = c .before .before .before .before .before .before .before .before .before .before .before .before in
+    omega (arith, groups-short _ (b .before .before .before .before .before .pre .head) (b .loop .inv .chain), ap (λ (n : Counts). n .groups) (b .loop .inv .holds .counts-are))
 
 loop-less : tie.Need-loop-less Inv-loop μ-loop
 loop-less c =
-    let b = c .before .before .before .before .before .before .before .before .before .before .before in
-    omega (arith, groups-short _ (b .before .before .before .before .pre .head) (b .loop .inv .chain), b .loop .inv .holds .groups-are)
+    let b = c .before .before .before .before .before .before .before .before .before .before .before .before in
+    omega (arith, groups-short _ (b .before .before .before .before .before .pre .head) (b .loop .inv .chain), ap (λ (n : Counts). n .groups) (b .loop .inv .holds .counts-are))
 
 loop-again : tie.Need-loop-again Inv-loop μ-loop
 unfolding temperaturesAt
 loop-again c =
-    let d = c .before .before .before .before .before .before .before in
+    let d = c .before .before .before .before .before .before .before .before in
     let b = d .before .before .before .before in
-    let a = b .before .before .before .before in
+    let a = b .before .before .before .before .before in
     let r = d .step-group .result in
     let e = ap (λ (h : Header). h .temperatures) (a .pre .header) in
-    group-passed _ (a .pre .head) (b .loop .inv) (d .before .before .before .loop-test .taken) (d .step-group .ensures) (c .before .before .before .before .if1 .left)
-    (c .before .before .add-group .ensures ∙ ap (λ (ts : List ℤ). plusGroup (a .args .summing) (b .loop .totals) (groupAnswer (r .group) ts (r .coefficients))) e)
+    group-passed _ (a .pre .head) (b .loop .inv) (d .before .before .before .loop-test .taken) (d .step-group .ensures) (c .before .before .before .before .before .if1 .left)
+    (c .before .before .before .add-group .ensures ∙ ap (λ (ts : List ℤ). plusGroup (a .args .summing) (b .loop .totals) (groupAnswer (r .group) ts (r .coefficients))) e)
 
 same-length-2 : tie.Need-same-length-2 Inv-loop μ-loop
-same-length-2 c = c .before .before .loop .inv .holds .room ∙ sym (ap length (c .before .before .before .before .before .before .pre .none-summed))
+same-length-2 c = c .before .before .loop .inv .holds .room ∙ sym (ap length (c .before .before .before .before .before .before .before .pre .none-summed))
 
 returns-2 : tie.Need-returns-2 Inv-loop μ-loop
 returns-2 c =
     let b = c .before .before in
     record {
       refused = λ z. absurd (z (ap (λ (v : Verdict). v .number) (c .accept .ensures)));
-      ended = λ _. groups-ended _ (b .before .before .before .before .pre .head) (b .loop .inv) (c .before .loop-test .left);
+      ended = λ _. groups-ended _ (b .before .before .before .before .before .pre .head) (b .loop .inv) (c .before .loop-test .left);
     }
 
 pub walk-groups-spec : {M : Type 1} → statement M
 walk-groups-spec =
     tie.close
-    (tie.spec Inv-loop μ-loop loop-holds step-group-requires same-length returns (omega arith) add-count loop-less loop-again (omega arith) same-length-2 returns-2)
+    (tie.spec Inv-loop μ-loop (omega arith) loop-holds step-group-requires same-length returns (omega arith) add-counts loop-less loop-again (omega arith) same-length-2 returns-2)

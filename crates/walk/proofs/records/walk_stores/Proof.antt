@@ -1,28 +1,29 @@
 -- After each step the store records passed are a chain, after the groups, of which every question is answered yes, with its marks and its sums (`Passing`); a
--- chain of different slots below 1,024 ends.
+-- chain of different slots ends.
 use native.Mathlib.Omega.{arith}
 use Prim.Native.Nat.{_-_}
 use mathlib.Core.Path.{refl, sym, ap, _∙_}
 use Rattle.sums.specs.declared.answer.Verdict.{Verdict}
 use Rattle.slots.specs.declared.header.Header.{Header}
-use Rattle.slot_file.specs.Questions.{groupsSoFar, storesSoFar}
+use Rattle.slot_file.specs.Questions.{mostSlots, groupsSoFar, storesSoFar}
 use Rattle.slot_file.specs.Meaning.{at-store}
 use Rattle.slot_file.proofs.Verdicts.{bytes-most}
+use Rattle.slot_file.specs.declared.Counts.{Counts}
 use Rattle.walk.specs.Walked.{StoresPassed}
 use Rattle.walk.proofs.Passing.{stores-short, stores-ended, store-passed}
 use Rattle.walk.proofs.records.walk_stores.Statement.{statement}
 use Rattle.walk.proofs.records.walk_stores.Tie as tie
 
 abbrev Inv-loop : tie.InvT-loop
-Inv-loop file sources₀ reached₀ totals₀ summing groups holder₀ link₀ count₀ sources reached totals holder link count =
-    StoresPassed file summing sources reached totals holder link groups count
+Inv-loop file sources₀ reached₀ totals₀ summing counts₀ holder₀ link₀ sources reached totals counts holder link =
+    StoresPassed file summing sources reached totals holder link counts
 
 abbrev μ-loop : tie.MeasureT-loop
-μ-loop file sources₀ reached₀ totals₀ summing groups holder₀ link₀ count₀ sources reached totals holder link count = 1024 - count
+μ-loop file sources₀ reached₀ totals₀ summing counts₀ holder₀ link₀ sources reached totals counts holder link = mostSlots - counts .stores
 
 loop-holds : tie.Need-loop-holds Inv-loop μ-loop
 loop-holds c =
-    let b = c .before .before .pre in
+    let b = c .before .before .before .pre in
     let p = b .groups .passed in
     record {
       c = groupsSoFar (p .gs);
@@ -33,10 +34,10 @@ loop-holds c =
     }
 
 step-store-requires : tie.Need-step-store-requires Inv-loop μ-loop
-step-store-requires c κs = (bytes-most _ (c .before .before .before .before .before .before .pre .head), c .before .before .loop-test .taken)
+step-store-requires c κs = (bytes-most _ (c .before .before .before .before .before .before .before .pre .head), c .before .before .loop-test .taken)
 
 same-length : tie.Need-same-length Inv-loop μ-loop
-same-length c = c .before .before .before .before .before .before .before .loop .inv .holds .room ∙ sym (c .before .before .before .before .before .before .before .before .before .before .pre .groups .passed .holds .room)
+same-length c = c .before .before .before .before .before .before .before .loop .inv .holds .room ∙ sym (c .before .before .before .before .before .before .before .before .before .before .before .pre .groups .passed .holds .room)
 
 returns : tie.Need-returns Inv-loop μ-loop
 returns c =
@@ -44,42 +45,42 @@ returns c =
     let p = b .loop .inv in
     let t = c .before .before .before .step-store .ensures in
     record {
-      refused = λ z. at-store (p .c) (b .loop .link) (b .before .before .before .pre .head) (p .group-chain) (p .chain)
+      refused = λ z. at-store (p .c) (b .loop .link) (b .before .before .before .before .pre .head) (p .group-chain) (p .chain)
           (c .before .before .before .before .before .before .loop-test .taken) (t .told (storesSoFar (p .c) (p .c .stores)) (p .holds .sources-are) (p .holder-is) .first z);
       ended = λ y. absurd (c .if1 .taken y);
     }
 
-add-count : tie.Need-add-count Inv-loop μ-loop
-add-count c =
-    let b = c .before .before .before .before .before .before .before .before .before .before .before in
+add-counts : tie.Need-add-counts Inv-loop μ-loop
+add-counts c =
+    let b = c .before .before .before .before .before .before .before .before .before .before .before .before in
     let p = b .loop .inv in
-    omega (arith, stores-short _ (b .before .before .before .pre .head) (p .c) (p .group-chain) (p .chain), p .holds .stores-are)
+    omega (arith, stores-short _ (b .before .before .before .before .pre .head) (p .c) (p .group-chain) (p .chain), ap (λ (n : Counts). n .stores) (p .holds .counts-are))
 
 loop-less : tie.Need-loop-less Inv-loop μ-loop
 loop-less c =
-    let b = c .before .before .before .before .before .before .before .before .before .before .before in
+    let b = c .before .before .before .before .before .before .before .before .before .before .before .before in
     let p = b .loop .inv in
-    omega (arith, stores-short _ (b .before .before .before .pre .head) (p .c) (p .group-chain) (p .chain), p .holds .stores-are)
+    omega (arith, stores-short _ (b .before .before .before .before .pre .head) (p .c) (p .group-chain) (p .chain), ap (λ (n : Counts). n .stores) (p .holds .counts-are))
 
 loop-again : tie.Need-loop-again Inv-loop μ-loop
 loop-again c =
-    let d = c .before .before .before .before .before .before .before in
+    let d = c .before .before .before .before .before .before .before .before in
     let b = d .before .before .before .before in
-    store-passed _ (b .before .before .before .pre .head) (b .loop .inv) (d .before .before .before .loop-test .taken) (d .step-store .ensures) (c .before .before .before .before .if1 .left)
-    (c .before .before .add-store .ensures)
+    store-passed _ (b .before .before .before .before .pre .head) (b .loop .inv) (d .before .before .before .loop-test .taken) (d .step-store .ensures) (c .before .before .before .before .before .if1 .left)
+    (c .before .before .before .add-store .ensures)
 
 same-length-2 : tie.Need-same-length-2 Inv-loop μ-loop
-same-length-2 c = c .before .before .loop .inv .holds .room ∙ sym (c .before .before .before .before .before .pre .groups .passed .holds .room)
+same-length-2 c = c .before .before .loop .inv .holds .room ∙ sym (c .before .before .before .before .before .before .pre .groups .passed .holds .room)
 
 returns-2 : tie.Need-returns-2 Inv-loop μ-loop
 returns-2 c =
     let b = c .before .before in
     record {
       refused = λ z. absurd (z (ap (λ (v : Verdict). v .number) (c .accept .ensures)));
-      ended = λ _. stores-ended _ (b .before .before .before .pre .head) (b .loop .inv) (c .before .loop-test .left);
+      ended = λ _. stores-ended _ (b .before .before .before .before .pre .head) (b .loop .inv) (c .before .loop-test .left);
     }
 
 pub walk-stores-spec : {M : Type 1} → statement M
 walk-stores-spec =
     tie.close
-    (tie.spec Inv-loop μ-loop loop-holds step-store-requires same-length returns (omega arith) add-count loop-less loop-again (omega arith) same-length-2 returns-2)
+    (tie.spec Inv-loop μ-loop loop-holds step-store-requires same-length returns (omega arith) add-counts loop-less loop-again (omega arith) same-length-2 returns-2)

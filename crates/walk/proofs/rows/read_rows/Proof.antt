@@ -9,7 +9,7 @@ use native.Mathlib.Numerals.{add-one}
 use borrow.Author.Tests.{ltb-true, eq-eqb, ne-eqb}
 use lib.ListN.{getD, set, length}
 use Rattle.sums.proofs.Choices.{filled, listTo-is}
-use Rattle.vehicles.specs.Fields.{noCoefficients}
+use Rattle.vehicles.specs.Fields.{pollutantCount, noCoefficients}
 use Rattle.slots.specs.Bytes.{slotOf}
 use Rattle.slots.specs.Layout.{coefficientsRead}
 use Rattle.slots.specs.declared.coefficients.CoefficientsRead.{CoefficientsRead}
@@ -24,12 +24,12 @@ use Rattle.walk.proofs.rows.read_rows.Tie as tie
 
 abbrev Inv-loop : tie.InvT-loop
 Inv-loop file reached₀ g first coefficients₀ holder₀ link₀ n₀ reached coefficients holder link n =
-    (n ≤ 6) × (length coefficients ≡ 6) × AllYes (rowsAsks file g n) × (holder ≡ coefficientHolder file g n) × (link ≡ coefficientSlot file g n)
+    (n ≤ pollutantCount) × (length coefficients ≡ pollutantCount) × AllYes (rowsAsks file g n) × (holder ≡ coefficientHolder file g n) × (link ≡ coefficientSlot file g n)
     × (reached ≡ marksTo file g reached₀ n)
     × ((m : ℕ) → m < n → getD coefficients m noCoefficients ≡ coefficientsRead (slotOf file (coefficientSlot file g m)) .coefficients)
 
 abbrev μ-loop : tie.MeasureT-loop
-μ-loop file reached₀ g first coefficients₀ holder₀ link₀ n₀ reached coefficients holder link n = 6 - n
+μ-loop file reached₀ g first coefficients₀ holder₀ link₀ n₀ reached coefficients holder link n = pollutantCount - n
 
 loop-holds : tie.Need-loop-holds Inv-loop μ-loop
 unfolding rowsAsks coefficientHolder coefficientSlot marksTo
@@ -44,7 +44,7 @@ returns c =
     record {
       told = record {
         all = λ z. absurd (c .if1 .taken z);
-        first = λ z. no-before (rowsAsks s (a .g) 6) (afterSixth s (a .g) ∷ []) (rows-no s (a .g) 6 (b .loop .n) (omega arith) (b .loop .inv .2) (told .first z));
+        first = λ z. no-before (rowsAsks s (a .g) pollutantCount) (afterSixth s (a .g) ∷ []) (rows-no s (a .g) pollutantCount (b .loop .n) (omega arith) (b .loop .inv .2) (told .first z));
       };
       coefficients = λ z. absurd (c .if1 .taken z);
       marks = λ z. absurd (c .if1 .taken z);
@@ -85,12 +85,12 @@ returns-2 c =
     let b = c .before .before .before in
     let a = b .before .before .before .args in
     let s = a .file .now in
-    let n : b .loop .n ≡ 6 = omega arith in
-    let z : coefficientSlot s (a .g) 6 ≡ 0 → ⊥ = λ z. c .before .if2 .taken (rw n at (b .loop .inv .4) ∙ z) in
+    let n : b .loop .n ≡ pollutantCount = omega arith in
+    let z : coefficientSlot s (a .g) pollutantCount ≡ 0 → ⊥ = λ z. c .before .if2 .taken (rw n at (b .loop .inv .4) ∙ z) in
     let v = not-refused 10 (b .loop .holder) (c .refuse .ensures) (omega arith) in
     record {
-      told = told-no 10 (coefficientSlot s (a .g) 5) (c .refuse .ensures ∙ ap (λ (k : ℕ). record { number = 10; slot = k }) (rw n at (b .loop .inv .3))) (omega arith)
-          (no-after (rowsAsks s (a .g) 6) (afterSixth s (a .g) ∷ []) (rw n at (b .loop .inv .2)) (here _ _ (ne-eqb _ 0 z)));
+      told = told-no 10 (coefficientSlot s (a .g) (pollutantCount - 1)) (c .refuse .ensures ∙ ap (λ (k : ℕ). record { number = 10; slot = k }) (rw n at (b .loop .inv .3))) (omega arith)
+          (no-after (rowsAsks s (a .g) pollutantCount) (afterSixth s (a .g) ∷ []) (rw n at (b .loop .inv .2)) (here _ _ (ne-eqb _ 0 z)));
       coefficients = λ y. absurd (v y);
       marks = λ y. absurd (v y);
     }
@@ -101,12 +101,12 @@ returns-3 c =
     let b = c .before .before .before in
     let a = b .before .before .before .args in
     let s = a .file .now in
-    let n : b .loop .n ≡ 6 = omega arith in
-    let z : coefficientSlot s (a .g) 6 ≡ 0 = sym (rw n at (b .loop .inv .4)) ∙ c .before .if2 .left in
+    let n : b .loop .n ≡ pollutantCount = omega arith in
+    let z : coefficientSlot s (a .g) pollutantCount ≡ 0 = sym (rw n at (b .loop .inv .4)) ∙ c .before .if2 .left in
     record {
-      told = told-yes (c .accept .ensures) (all-append (rowsAsks s (a .g) 6) (afterSixth s (a .g) ∷ []) (rw n at (b .loop .inv .2)) (eq-eqb _ 0 z, tt));
+      told = told-yes (c .accept .ensures) (all-append (rowsAsks s (a .g) pollutantCount) (afterSixth s (a .g) ∷ []) (rw n at (b .loop .inv .2)) (eq-eqb _ 0 z, tt));
       coefficients = λ _.
-          listTo-is noCoefficients 6 (b .loop .coefficients) (λ (m : ℕ). coefficientsRead (slotOf s (coefficientSlot s (a .g) m)) .coefficients) (b .loop .inv .1)
+          listTo-is noCoefficients pollutantCount (b .loop .coefficients) (λ (m : ℕ). coefficientsRead (slotOf s (coefficientSlot s (a .g) m)) .coefficients) (b .loop .inv .1)
           (rw n at (b .loop .inv .6));
       marks = λ _. rw n at (b .loop .inv .5);
     }

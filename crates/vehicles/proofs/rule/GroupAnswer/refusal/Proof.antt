@@ -1,4 +1,4 @@
--- Six emissions of nothing.
+-- Emissions of nothing.
 use borrow.Author.Needs.{needs}
 use Rattle.vehicles.proofs.rule.GroupAnswer.refusal.Statement.{statement}
 use Rattle.vehicles.proofs.rule.GroupAnswer.refusal.Tie as tie
