@@ -49,7 +49,7 @@ size_t tezhebul_list(const uint8_t *file, size_t file_length, uint8_t *buffer, s
 #define TEZHEBUL_STORE_NUMBERS (2 + TEZHEBUL_EMISSION_NUMBERS)
 #define TEZHEBUL_GROUP_NUMBERS (2 + 6 * TEZHEBUL_EMISSION_NUMBERS)
 #define TEZHEBUL_ANNUAL_DENOMINATOR UINT64_C(20000000000000)
-#define TEZHEBUL_PEAK_DENOMINATOR UINT64_C(360000000)
+#define TEZHEBUL_PEAK_DENOMINATOR UINT64_C(72000000)
 
 /* Store records. False, and nothing written, where `out` has room for fewer than TEZHEBUL_STORE_NUMBERS.
 

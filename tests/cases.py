@@ -20,12 +20,10 @@ MOST_GROUPS = 1_017
 
 @dataclass(frozen=True)
 class Sums:
-    """Two mixed numbers, whole units and parts of one, and a factor."""
+    """Two sums of exact units, each of 128 bits, and a factor of 32."""
 
-    whole: int
-    part: int
-    other_whole: int
-    other_part: int
+    units: int
+    other: int
     factor: int
 
 
@@ -453,33 +451,46 @@ SURVEYED_MINUTES = ((51, 3), (50, 4), (-50, 4), (-51, 10), (-100, 10), (-101, 15
 
 # The sums themselves
 
-TOP = 2**64 - 1
+# The most that a sum holds, that one of its words holds, and that a factor can be
+ALL = 2**128 - 1
+WORD = 2**64 - 1
+FACTOR = 2**32 - 1
 
 
 def sums_cases(denominators):
-    edge = []
+    edge = [
+        ("nothing", Sums(0, 0, 0)),
+        ("last of a word", Sums(WORD, 1, FACTOR)),
+        ("a word and one", Sums(WORD + 1, WORD, FACTOR)),
+        ("two last of a word", Sums(WORD, WORD, 2)),
+        ("high word alone", Sums(WORD << 64, WORD << 64, FACTOR)),
+        ("half of the range", Sums(2**127, 2**127, 2)),
+        ("largest of all", Sums(ALL, ALL, FACTOR)),
+        ("largest and one", Sums(ALL, 1, 1)),
+        ("2^112 by 65535", Sums(2**112 + WORD, 2**112 - 1, 65_535)),
+        ("2^96 by 2^32 - 1", Sums(2**96 - 1, 2**96, FACTOR)),
+        ("2^32 - 1 by 2^32 - 1", Sums(2**32 - 1, 2**32, FACTOR)),
+        ("halves of the low word", Sums(2**64 + 2**32 - 1, 2**64 + (FACTOR << 32), FACTOR)),
+    ]
     for name, d in denominators:
         half = d // 2
+        top = WORD * d
         edge += [
-            (f"{name} nothing", Sums(0, 0, 0, 0, 0)),
-            (f"{name} one part less than half", Sums(5, half - 1, 0, 0, 1)),
-            (f"{name} half a unit", Sums(5, half, 0, 1, 2)),
-            (f"{name} half and one part", Sums(5, half + 1, 5, half - 1, 3)),
-            (f"{name} last part", Sums(0, d - 1, 0, 1, 65_535)),
-            (f"{name} two last parts", Sums(7, d - 1, 8, d - 1, 65_534)),
-            (f"{name} part is a unit", Sums(0, d, 0, d, 1)),
-            (f"{name} part is a unit and more", Sums(3, d + 1, 4, 2 * d - 1, 10)),
-            (f"{name} part and a half", Sums(3, d + half, 4, 3 * d + half - 1, 9)),
-            (f"{name} largest part", Sums(0, TOP, 0, TOP, 65_535)),
-            (f"{name} last unit and half", Sums(TOP, half, 0, half, 1)),
-            (f"{name} last unit, below half", Sums(TOP, half - 1, 1, 0, 2)),
-            (f"{name} last unit and last part", Sums(TOP, d - 1, 0, 1, 65_535)),
-            (f"{name} last unit, unit of parts", Sums(TOP, d, TOP, d - 1, 256)),
-            (f"{name} largest of all", Sums(TOP, TOP, TOP, TOP, 65_535)),
-            (f"{name} half of the range", Sums(2**63, 0, 2**63, 0, 2)),
-            (f"{name} 2^48 by 65535", Sums(2**48, half, 2**48 - 1, 1, 65_535)),
-            (f"{name} 2^48 + 2^32 by 65535", Sums(2**48 + 2**32, half, 1, 1, 65_535)),
-            (f"{name} 2^32 - 1 by 65535", Sums(2**32 - 1, d - 1, 2**32, 0, 65_535)),
+            (f"{name} one unit less than half", Sums(5 * d + half - 1, 0, 1)),
+            (f"{name} half", Sums(5 * d + half, 1, 2)),
+            (f"{name} half and one unit", Sums(5 * d + half + 1, 5 * d + half - 1, 3)),
+            (f"{name} last unit", Sums(d - 1, 1, 65_535)),
+            (f"{name} two last units", Sums(7 * d + d - 1, 8 * d + d - 1, 65_534)),
+            (f"{name} one printed", Sums(d, d, 1)),
+            (f"{name} past a word, and half", Sums(2**64 // d * d + d + half, d, 10)),
+            (f"{name} quotient of 16 bits", Sums(d << 16, (d << 16) - 1, 65_536)),
+            (f"{name} quotient of 32 bits", Sums(d << 32, (d << 32) - 1, 65_537)),
+            (f"{name} quotient of 48 bits", Sums(d << 48, (d << 48) - 1, FACTOR)),
+            (f"{name} high word a multiple", Sums((d << 64) + half, (d << 64) - 1, 3)),
+            (f"{name} last printed and half", Sums(top + half, half, 1)),
+            (f"{name} last printed, below half", Sums(top + half - 1, d, 2)),
+            (f"{name} last printed, last unit", Sums(top + d - 1, 1, 65_535)),
+            (f"{name} past 2^64 printed", Sums(top + d, top + d - 1, 256)),
         ]
     return [Case(label, s) for label, s in edge]
 
@@ -633,10 +644,13 @@ def spoiled_group(dice):
 
 
 def any_sums(dice):
-    def number():
-        return dice.pick((dice.below(2**32), TOP - dice.below(2**32), dice.below(2**64)))
+    def word():
+        return dice.pick((dice.below(2**32), WORD - dice.below(2**32), dice.below(2**64)))
 
-    return Sums(number(), number(), number(), number(), dice.below(65_536))
+    def units():
+        return (word() << 64) + word()
+
+    return Sums(units(), units(), dice.pick((dice.below(65_536), dice.below(2**32))))
 
 
 def random_cases():

@@ -17,13 +17,14 @@ A case is a record of 320 bytes, numbers little-endian, other bytes zero:
             49 neutraliser for run and idle, 50 for warm-up, 52..55 idle time,
             56..71 four distances, 72..83 days, 84..107 temperatures (signed),
             108..275 six pollutants of seven coefficients
-    5:      40..47 whole and 48..55 part of a number, 56..63 and 64..71 of another, 72..73 factor
+    5:      40..55 exact units of a sum and 56..71 of another, 72..75 factor
 
 Of a source the program prints its label, verdict and slot, then a line for each emission: code,
 annual whole and part, peak whole and part, annual and peak figure. Where the source is added to
 the totals, the lines follow of its emissions added up so often, with no code. Of sums it prints,
-for either type, `of` the first whole, the sum, the product of the first and the factor, and the
-figure of the first. The totals come last. A record that is cut off is left out.
+for either type, `of` the first's low word, the sum, the product of the first and the factor, each
+as high word, low word, whole and part, and the figure of the first. The totals come last. A record
+that is cut off is left out.
 """
 import sys
 
@@ -38,9 +39,10 @@ import papers
 
 # Every exact unit has one denominator (01, "Figures"): parts in a printed unit
 ANNUAL_PARTS = 20_000_000_000_000
-PEAK_PARTS = 360_000_000
+PEAK_PARTS = 72_000_000
 
-# A sum holds 64 bits of whole units
+# A sum is exact units in two words of 64 bits; a figure, and the whole of a printed sum, is one
+WORDS = 2**128
 WHOLES = 2**64
 
 DENOMINATORS = (("annual", ANNUAL_PARTS), ("peak", PEAK_PARTS))
@@ -76,7 +78,7 @@ def group_fields(g):
 
 
 def sums_fields(s):
-    return struct.pack("<QQQQH", s.whole, s.part, s.other_whole, s.other_part, s.factor)
+    return s.units.to_bytes(16, "little") + s.other.to_bytes(16, "little") + struct.pack("<I", s.factor)
 
 
 FIELDS = {
@@ -139,20 +141,20 @@ def source_lines(case, totals):
         totals[place] = (totals[place][0] + tonnes, totals[place][1] + rate)
 
 
-def wrapped(parts, denominator):
-    """A sum of so many parts holds its whole units modulo 2^64."""
-    return f"{parts // denominator % WHOLES} {parts % denominator}"
+def sum_words(units, denominator):
+    """A sum of so many units holds them modulo 2^128: its words, and its whole and part."""
+    held = units % WORDS
+    words = f"{held // WHOLES} {held % WHOLES}"
+    return f"{words} {held // denominator % WHOLES} {held % denominator}"
 
 
 def sums_lines(s):
     yield "sums"
     for name, denominator in DENOMINATORS:
-        first = s.whole * denominator + s.part
-        other = s.other_whole * denominator + s.other_part
-        yield f"{name} of {wrapped(s.whole, denominator)}"
-        yield f"{name} plus {wrapped(first + other, denominator)}"
-        yield f"{name} times {wrapped(first * s.factor, denominator)}"
-        yield f"{name} rounded {papers.figure(Fraction(first, denominator)) % WHOLES}"
+        yield f"{name} of {sum_words(s.units % WHOLES, denominator)}"
+        yield f"{name} plus {sum_words(s.units + s.other, denominator)}"
+        yield f"{name} times {sum_words(s.units * s.factor, denominator)}"
+        yield f"{name} rounded {papers.figure(Fraction(s.units, denominator)) % WHOLES}"
 
 
 def printed(case, totals):

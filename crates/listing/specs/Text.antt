@@ -1,16 +1,21 @@
 -- What the inner functions promise: bytes written into an array, one after the other. Nothing here has to be believed; the promises of the public functions cite
 -- slot_file's definitions alone.
-use Prim.Native.Nat.{ℕ, _+_}
+use Prim.Native.Nat.{ℕ, _+_, _*_}
 use mathlib.Core.Path.{_≡_}
 use mathlib.Core.List.{List, _++_}
 use lib.ListN.{length}
 use lib.Seq.{sets}
+use Rattle.slot_file.specs.Codes.{codeCount}
 use Rattle.slot_file.specs.Listing.{text, decimal}
 
 -- the bytes are stored from a place on, and nothing else is changed; r is the place after them
 pub record Added (before : List ℕ) (at : ℕ) (after : List ℕ) (r : ℕ) (bytes : List ℕ) : Type 0 where
   pub stored : after ≡ sets before at bytes
   pub next : r ≡ at + length bytes
+
+-- room for any listing, which a code's line takes the most of: the longest listing has 526 bytes
+abbrev pub listingRoom : ℕ
+listingRoom = 64 * codeCount
 
 -- the bytes of a code's line at most: four digits, two numbers of 20 digits with a point each, two spaces and a line feed
 abbrev pub lineMost : ℕ

@@ -1,8 +1,8 @@
 // The lines of the listing, and the refusal line.
 ghost use Prim.Native.Nat.{_+_, _*_, _≤_};
 ghost use Rattle.slot_file.specs.Codes.{codes, codeCount};
-ghost use Rattle.slot_file.specs.Listing.{line, lines, listing, listingRoom, refusalLine, printed};
-ghost use Rattle.listing.specs.Text.{Added, pair, lineMost};
+ghost use Rattle.slot_file.specs.Listing.{line, lines, listing, refusalLine, printed};
+ghost use Rattle.listing.specs.Text.{listingRoom, Added, pair, lineMost};
 use super::LISTING_ROOM;
 use super::numbers;
 use super::text;

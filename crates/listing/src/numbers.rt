@@ -1,8 +1,8 @@
 // Numbers in decimal into a lent array.
 ghost use mathlib.Core.Path.{_≡_};
 ghost use Prim.Native.Nat.{_+_, _^_, _<_, _≤_};
-ghost use Rattle.slot_file.specs.Listing.{listingRoom, decimal, padded, fixed};
-ghost use Rattle.listing.specs.Text.{Added};
+ghost use Rattle.slot_file.specs.Listing.{decimal, padded, fixed};
+ghost use Rattle.listing.specs.Text.{listingRoom, Added};
 use super::LISTING_ROOM;
 use super::text;
 

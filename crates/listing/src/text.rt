@@ -2,8 +2,7 @@
 ghost use Prim.Native.Nat.{_+_, _<_, _≤_};
 ghost use mathlib.Core.List.{[], _∷_};
 ghost use lib.ListN.{length};
-ghost use Rattle.slot_file.specs.Listing.{listingRoom};
-ghost use Rattle.listing.specs.Text.{Added};
+ghost use Rattle.listing.specs.Text.{listingRoom, Added};
 use super::LISTING_ROOM;
 
 pub(crate) fn put_byte(out: &mut [u8; LISTING_ROOM], at: usize, b: u8) -> usize

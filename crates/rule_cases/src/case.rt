@@ -4,6 +4,7 @@ use super::fields;
 use super::numbers::Record;
 use super::numbers::u8_at;
 use super::numbers::u16_at;
+use super::numbers::u32_at;
 use super::numbers::u64_at;
 use super::printing;
 use super::totals;
@@ -12,9 +13,10 @@ use sums::AnnualSum;
 use sums::Emission;
 use sums::PeakSum;
 use sums::mixed::Mixed;
+use vehicles::EMISSIONS;
 
 // What the case adds to the totals.
-pub(crate) fn run(r: &Record) -> [Emission; 6] {
+pub(crate) fn run(r: &Record) -> [Emission; EMISSIONS] {
     printing::label(r);
     let times = u16_at(r, 34);
     let kind = u8_at(r, 32);
@@ -27,7 +29,7 @@ pub(crate) fn run(r: &Record) -> [Emission; 6] {
     }
 }
 
-fn store(answer: StoreAnswer, times: u16) -> [Emission; 6] {
+fn store(answer: StoreAnswer, times: u16) -> [Emission; EMISSIONS] {
     let verdict = answer.verdict;
     let e = answer.emission;
     printing::verdict(verdict);
@@ -40,7 +42,7 @@ fn store(answer: StoreAnswer, times: u16) -> [Emission; 6] {
     total
 }
 
-fn group(r: &Record, times: u16) -> [Emission; 6] {
+fn group(r: &Record, times: u16) -> [Emission; EMISSIONS] {
     let answer = vehicles::group_emissions(
         fields::group(r),
         fields::temperatures(r),
@@ -58,29 +60,30 @@ fn group(r: &Record, times: u16) -> [Emission; 6] {
     total
 }
 
-fn mixed_at(r: &Record, at: usize) -> Mixed
+// The words of a sum, the low one first.
+fn words_at(r: &Record, at: usize) -> Mixed
     requires { ⌜ at + 16 ≤ 320 ⌝ }
 {
     Mixed {
-        whole: u64_at(r, at),
-        part: u64_at(r, at + 8),
+        whole: u64_at(r, at + 8),
+        part: u64_at(r, at),
     }
 }
 
-fn both_sums(r: &Record) -> [Emission; 6] {
+fn both_sums(r: &Record) -> [Emission; EMISSIONS] {
     io::write_all(1, b"sums\n");
-    let a = mixed_at(r, 40);
-    let b = mixed_at(r, 56);
-    let k = u16_at(r, 72);
+    let a = words_at(r, 40);
+    let b = words_at(r, 56);
+    let k = u32_at(r, 72);
     annual_sums(AnnualSum(a), AnnualSum(b), k);
     peak_sums(PeakSum(a), PeakSum(b), k);
     totals::zero()
 }
 
-fn annual_sums(a: AnnualSum, b: AnnualSum, k: u16) {
+fn annual_sums(a: AnnualSum, b: AnnualSum, k: u32) {
     let m = a.0;
     io::write_all(1, b"annual of ");
-    printing::annual_sum(AnnualSum::of(m.whole));
+    printing::annual_sum(AnnualSum::of(m.part));
     io::write_all(1, b"annual plus ");
     printing::annual_sum(a.plus(b));
     io::write_all(1, b"annual times ");
@@ -89,10 +92,10 @@ fn annual_sums(a: AnnualSum, b: AnnualSum, k: u16) {
     printing::figure(a.rounded());
 }
 
-fn peak_sums(a: PeakSum, b: PeakSum, k: u16) {
+fn peak_sums(a: PeakSum, b: PeakSum, k: u32) {
     let m = a.0;
     io::write_all(1, b"peak of ");
-    printing::peak_sum(PeakSum::of(m.whole));
+    printing::peak_sum(PeakSum::of(m.part));
     io::write_all(1, b"peak plus ");
     printing::peak_sum(a.plus(b));
     io::write_all(1, b"peak times ");

@@ -13,14 +13,14 @@
 //             49 neutraliser for run and idle, 50 for warm-up, 52..55 idle time,
 //             56..71 four distances, 72..83 days, 84..107 temperatures (signed),
 //             108..275 six pollutants of seven coefficients
-//     5:      40..47 whole and 48..55 part of a number, 56..63 and 64..71 of another,
-//             72..73 factor
+//     5:      40..55 exact units of a sum and 56..71 of another, 72..75 factor
 //
 // Of a source it prints the label, verdict and slot, then a line for each emission: code, annual
 // whole and part, peak whole and part, annual and peak figure. Where the source is added to the
 // totals, the lines follow of its emissions added up so often, with no code. Of sums it prints,
-// for either type, `of` the first whole, the sum, the product of the first and the factor, and the
-// figure of the first. The totals come last. A record that is cut off is left out.
+// for either type, `of` the first's low word, the sum, the product of the first and the factor,
+// each as high word, low word, whole and part, and the figure of the first. The totals come last.
+// A record that is cut off is left out.
 //
 // tests/rule_cases.py writes the cases, and works out what must be printed. The run takes more steps
 // than the interpreter of `rt try` allows; compiled it takes a moment.
@@ -31,14 +31,15 @@ mod printing;
 mod totals;
 
 use sums::Emission;
+use vehicles::EMISSIONS;
 
 // Whether a record was there, and the totals after it.
 struct Step {
     more: bool,
-    totals: [Emission; 6],
+    totals: [Emission; EMISSIONS],
 }
 
-fn next_case(totals: [Emission; 6]) -> Step {
+fn next_case(totals: [Emission; EMISSIONS]) -> Step {
     let mut record = [0u8; 320];
     let n = io::read_full(0, &mut record);
     if n < 320 {
@@ -56,7 +57,7 @@ fn next_case(totals: [Emission; 6]) -> Step {
 
 // Nothing says that the input ends, so the turns are counted down, from a number that no run uses
 // up.
-fn run_all() -> [Emission; 6] {
+fn run_all() -> [Emission; EMISSIONS] {
     let mut totals = totals::zero();
     let mut turns = u64::MAX;
     while turns > 0 {

@@ -5,6 +5,7 @@ use sums::Emission;
 use sums::PeakSum;
 use sums::Verdict;
 use sums::mixed::Mixed;
+use vehicles::EMISSIONS;
 
 // The record's first 32 bytes.
 pub(crate) fn label(r: &Record) {
@@ -47,9 +48,9 @@ pub(crate) fn verdict(v: Verdict) {
 pub(crate) fn sums(e: Emission) {
     let annual = e.annual;
     let peak = e.peak;
-    mixed(annual.0);
+    mixed(annual.printed());
     space();
-    mixed(peak.0);
+    mixed(peak.printed());
     space();
     number(annual.rounded());
     space();
@@ -57,7 +58,7 @@ pub(crate) fn sums(e: Emission) {
     line_end();
 }
 
-pub(crate) fn all_sums(six: [Emission; 6]) {
+pub(crate) fn all_sums(six: [Emission; EMISSIONS]) {
     sums(six[0]);
     sums(six[1]);
     sums(six[2]);
@@ -72,7 +73,7 @@ pub(crate) fn emission(e: Emission) {
     sums(e);
 }
 
-pub(crate) fn all_emissions(six: [Emission; 6]) {
+pub(crate) fn all_emissions(six: [Emission; EMISSIONS]) {
     emission(six[0]);
     emission(six[1]);
     emission(six[2]);
@@ -87,17 +88,20 @@ pub(crate) fn added(times: u16) {
     line_end();
 }
 
-fn mixed_line(m: Mixed) {
-    mixed(m);
+// A sum's words, and its printed units.
+fn sum_line(words: Mixed, printed: Mixed) {
+    mixed(words);
+    space();
+    mixed(printed);
     line_end();
 }
 
 pub(crate) fn annual_sum(s: AnnualSum) {
-    mixed_line(s.0);
+    sum_line(s.0, s.printed());
 }
 
 pub(crate) fn peak_sum(s: PeakSum) {
-    mixed_line(s.0);
+    sum_line(s.0, s.printed());
 }
 
 pub(crate) fn figure(n: u64) {

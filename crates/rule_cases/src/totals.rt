@@ -1,13 +1,14 @@
 // Running totals, by `plus` alone.
 use sums::Emission;
+use vehicles::EMISSIONS;
 
-pub(crate) fn zero() -> [Emission; 6] {
+pub(crate) fn zero() -> [Emission; EMISSIONS] {
     let none = Emission::none();
-    [none; 6]
+    [none; EMISSIONS]
 }
 
 // One emission, and none in the other places.
-pub(crate) fn first(e: Emission) -> [Emission; 6] {
+pub(crate) fn first(e: Emission) -> [Emission; EMISSIONS] {
     let mut six = zero();
     six[0] = e;
     six
@@ -26,7 +27,7 @@ fn plus(a: Emission, b: Emission) -> Emission {
     }
 }
 
-pub(crate) fn joined(a: [Emission; 6], b: [Emission; 6]) -> [Emission; 6] {
+pub(crate) fn joined(a: [Emission; EMISSIONS], b: [Emission; EMISSIONS]) -> [Emission; EMISSIONS] {
     [
         plus(a[0], b[0]),
         plus(a[1], b[1]),
@@ -37,7 +38,7 @@ pub(crate) fn joined(a: [Emission; 6], b: [Emission; 6]) -> [Emission; 6] {
     ]
 }
 
-pub(crate) fn repeated(six: [Emission; 6], times: u16) -> [Emission; 6] {
+pub(crate) fn repeated(six: [Emission; EMISSIONS], times: u16) -> [Emission; EMISSIONS] {
     let mut total = zero();
     let mut left = times;
     while left > 0 {

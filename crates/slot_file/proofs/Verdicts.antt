@@ -12,8 +12,8 @@ use borrow.Author.Tests.{leb-true, ltb-true, ne-eqb, not-true}
 use Rattle.sums.specs.Choice.{if_then_else}
 use Rattle.sums.proofs.Choices.{left, right}
 use Rattle.slots.specs.Bytes.{slotOf}
-use Rattle.slots.specs.Layout.{nextOf, headerOf}
-use Rattle.slot_file.specs.Sources.{Chains}
+use Rattle.slots.specs.Layout.{nextOf}
+use Rattle.slot_file.specs.Sources.{headerAt, Chains}
 use Rattle.slot_file.specs.Questions.{mostSlots, Question, slotCount, headAsks, member, linkAsks, sourcesOf, groupsSoFar, storesSoFar, groupAsks, storeAsks, lastAsks, Verdict, accepted, refused}
 use Rattle.slot_file.specs.Walk.{first, chain, afterAll, storeWalk, groupWalk, verdict}
 use Rattle.slot_file.specs.Meaning.{AllYes, Reached, Chain, Good, Groups, Accepts, at-head, at-group, at-store, at-last, Means}
@@ -62,16 +62,16 @@ module _ (asks : List ℕ → ℕ → List Question) (end : List ℕ → Verdict
   walked from short = walks asks s from (λ n b k. chain asks end n s b k) end turn stop short
 
 module _ (s : List ℕ) (h : AllYes (headAsks s)) where
-  group-walk : Walks (λ (b : List ℕ). groupAsks s (groupsSoFar b)) s (headerOf (slotOf s 0) .groups) (groupWalk s) (λ b. storeWalk s (groupsSoFar b))
+  group-walk : Walks (λ (b : List ℕ). groupAsks s (groupsSoFar b)) s (headerAt s .groups) (groupWalk s) (λ b. storeWalk s (groupsSoFar b))
   unfolding groupWalk
   group-walk =
-      walked (λ b. groupAsks s (groupsSoFar b)) (λ b. storeWalk s (groupsSoFar b)) s (headerOf (slotOf s 0) .groups)
+      walked (λ b. groupAsks s (groupsSoFar b)) (λ b. storeWalk s (groupsSoFar b)) s (headerAt s .groups)
       (λ b link w. different-short (slotCount s) b (sized s h) (groups-differ s b _ link (w .chain) (w .good)))
 
-  store-walk : (c : Chains) → Groups s c 0 → Walks (λ (b : List ℕ). storeAsks s (storesSoFar c b)) s (headerOf (slotOf s 0) .stores) (storeWalk s c) (λ b. afterAll s (storesSoFar c b))
+  store-walk : (c : Chains) → Groups s c 0 → Walks (λ (b : List ℕ). storeAsks s (storesSoFar c b)) s (headerAt s .stores) (storeWalk s c) (λ b. afterAll s (storesSoFar c b))
   unfolding storeWalk
   store-walk c v =
-      walked (λ b. storeAsks s (storesSoFar c b)) (λ b. afterAll s (storesSoFar c b)) s (headerOf (slotOf s 0) .stores)
+      walked (λ b. storeAsks s (storesSoFar c b)) (λ b. afterAll s (storesSoFar c b)) s (headerAt s .stores)
       (λ b link w.
       let d = different-short (slotCount s) (sourcesOf (storesSoFar c b)) (sized s h) (stores-differ s c b _ link (groups-differ s (c .groups) _ 0 (v .chain) (v .good)) (w .chain) (w .good)) in
       omega (arith, length-append b (c .groups)))
@@ -110,6 +110,6 @@ exactly-when s v = (λ e. subst (Means s) e (says s), only s v)
 -- the chains of an accepted file are its only ones
 pub one-way : (s : List ℕ) (c d : Chains) → Accepts s c → Accepts s d → c ≡ d
 one-way s c d a b =
-    let g = one-chain s (headerOf (slotOf s 0) .groups) (c .groups) (d .groups) (a .groups .chain) (b .groups .chain) in
-    let k = one-chain s (headerOf (slotOf s 0) .stores) (c .stores) (d .stores) (a .stores .chain) (b .stores .chain) in
+    let g = one-chain s (headerAt s .groups) (c .groups) (d .groups) (a .groups .chain) (b .groups .chain) in
+    let k = one-chain s (headerAt s .stores) (c .stores) (d .stores) (a .stores .chain) (b .stores .chain) in
     λ i. record { groups = g i; stores = k i }

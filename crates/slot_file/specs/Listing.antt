@@ -1,5 +1,5 @@
 -- 01, "Figures": the listing, the refusal line, and question 13 with the buffer after it.
-use Prim.Native.Nat.{ℕ, zero, suc, _+_, _*_, _/_, _%_, _^_}
+use Prim.Native.Nat.{ℕ, zero, suc, _+_, _/_, _%_, _^_}
 use mathlib.Core.List.{List, [], _∷_, _++_}
 use lib.Dec.{leb, ltb, eqb}
 use lib.ListN.{getD, length, drop}
@@ -8,7 +8,7 @@ use Prim.Native.String as string
 use Prim.Native.String.{String}
 use Rattle.sums.specs.Choice.{if_then_else}
 use Rattle.slot_file.specs.declared.Answer.{Answer}
-use Rattle.slot_file.specs.Codes.{codes, codeCount}
+use Rattle.slot_file.specs.Codes.{codes}
 use Rattle.slot_file.specs.Figures.{refusal}
 
 -- the bytes of a text, whose characters are all of ASCII
@@ -44,10 +44,6 @@ lines (c ∷ cs) annual peak = line c (getD annual 0 0) (getD peak 0 0) ++ lines
 unfoldable pub listing : Answer → List ℕ
 listing a =
     text "code t/year g/s\n" ++ lines codes (a .annual) (a .peak) ++ text "sources " ++ decimal (a .counts .groups) ++ text " " ++ decimal (a .counts .stores) ++ text "\n"
-
--- room for any listing: the longest has 526 bytes
-abbrev pub listingRoom : ℕ
-listingRoom = 64 * codeCount
 
 -- "`refused`, number and slot, parted by spaces"
 unfoldable pub refusalLine : ℕ → ℕ → List ℕ

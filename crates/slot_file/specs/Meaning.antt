@@ -4,8 +4,8 @@ use mathlib.Core.Path.{_≡_}
 use mathlib.Core.Bool.{true, false}
 use mathlib.Core.List.{List, [], _∷_}
 use Rattle.slots.specs.Bytes.{slotOf}
-use Rattle.slots.specs.Layout.{nextOf, headerOf}
-use Rattle.slot_file.specs.Sources.{Chains}
+use Rattle.slots.specs.Layout.{nextOf}
+use Rattle.slot_file.specs.Sources.{headerAt, Chains}
 use Rattle.slot_file.specs.Questions.{Question, headAsks, groupsSoFar, storesSoFar, groupAsks, storeAsks, lastAsks, Verdict, accepted, refused}
 
 -- every question is answered yes
@@ -34,10 +34,10 @@ pub record Reached (asks : List ℕ → ℕ → List Question) (s : List ℕ) (f
 
 -- the groups of c, and after them its store records, up to a link
 abbrev pub Groups : List ℕ → Chains → ℕ → Type 0
-Groups s c link = Reached (λ (b : List ℕ). groupAsks s (groupsSoFar b)) s (headerOf (slotOf s 0) .groups) (c .groups) link
+Groups s c link = Reached (λ (b : List ℕ). groupAsks s (groupsSoFar b)) s (headerAt s .groups) (c .groups) link
 
 abbrev pub Stores : List ℕ → Chains → ℕ → Type 0
-Stores s c link = Reached (λ (b : List ℕ). storeAsks s (storesSoFar c b)) s (headerOf (slotOf s 0) .stores) (c .stores) link
+Stores s c link = Reached (λ (b : List ℕ). storeAsks s (storesSoFar c b)) s (headerAt s .stores) (c .stores) link
 
 -- an accepted file: each chain from the header's link to a zero, and every question answered yes
 pub record Accepts (s : List ℕ) (c : Chains) : Type 0 where

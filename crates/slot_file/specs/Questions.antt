@@ -8,8 +8,8 @@ use Rattle.sums.specs.Choice.{if_then_else}
 use Rattle.vehicles.specs.Fields.{pollutantCount, temperaturesInRange}
 use Rattle.vehicles.specs.Rules.{notZero}
 use Rattle.slots.specs.Bytes.{slotOf}
-use Rattle.slots.specs.Layout.{headerOf, groupRead, coefficientsRead, readStore, readNumber}
-use Rattle.slot_file.specs.Sources.{coefficientSlot, groupAt, Chains}
+use Rattle.slots.specs.Layout.{groupRead, coefficientsRead, readStore, readNumber}
+use Rattle.slot_file.specs.Sources.{coefficientSlot, groupAt, headerAt, Chains}
 
 pub record Question : Type 0 where
   pub answer : Bool
@@ -40,10 +40,10 @@ slotCount s = length s / 64
 unfoldable pub headAsks : List ℕ → List Question
 headAsks s =
     question (leb 64 (length s) && leb (length s) (64 * mostSlots) && eqb (length s % 64) 0) 1 0  -- "Is the length a multiple of 64, from 64 to 65,536?"
-    ∷ question (eqb (headerOf (slotOf s 0) .format) 1) 2 0  -- "Is the format number 1?"
-    ∷ question (eqb (headerOf (slotOf s 0) .count) (slotCount s)) 3 0  -- "Does the slot count equal length / 64?"
-    ∷ question (headerOf (slotOf s 0) .rest) 4 0  -- "Are bytes 32..63 of slot 0 zero?"
-    ∷ question (temperaturesInRange (headerOf (slotOf s 0) .temperatures)) 5 0  -- "Is each temperature from -600 to 600?"
+    ∷ question (eqb (headerAt s .format) 1) 2 0  -- "Is the format number 1?"
+    ∷ question (eqb (headerAt s .count) (slotCount s)) 3 0  -- "Does the slot count equal length / 64?"
+    ∷ question (headerAt s .rest) 4 0  -- "Are bytes 32..63 of slot 0 zero?"
+    ∷ question (temperaturesInRange (headerAt s .temperatures)) 5 0  -- "Is each temperature from -600 to 600?"
     ∷ []
 
 -- whether k is among the slots

@@ -9,6 +9,7 @@ use Rattle.vehicles.specs.declared.group.Group.{Group}
 use Rattle.vehicles.specs.declared.group.Coefficients.{Coefficients}
 use Rattle.slots.specs.Bytes.{slotOf}
 use Rattle.slots.specs.Layout.{headerOf, groupRead, coefficientsRead, storeOf}
+use Rattle.slots.specs.declared.header.Header.{Header}
 use Rattle.slots.specs.declared.store.Store.{Store}
 
 -- "34..35 first coefficient slot", and the chain from there: the coefficient slot of a group for the pollutant at place n from 0
@@ -31,8 +32,12 @@ groupAt s g = record {
 unfoldable pub storeAt : List ℕ → ℕ → Store
 storeAt s k = storeOf (slotOf s k)
 
+-- slot 0
+abbrev pub headerAt : List ℕ → Header
+headerAt s = headerOf (slotOf s 0)
+
 unfoldable pub temperaturesAt : List ℕ → List ℤ
-temperaturesAt s = headerOf (slotOf s 0) .temperatures
+temperaturesAt s = headerAt s .temperatures
 
 -- the slots of the groups and of the store records on the chains, the last of each first
 pub record Chains : Type 0 where

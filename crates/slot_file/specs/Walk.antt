@@ -5,8 +5,8 @@ use lib.Dec.{eqb}
 use Rattle.sums.specs.Choice.{if_then_else}
 use Rattle.sums.specs.declared.answer.Verdict as answer
 use Rattle.slots.specs.Bytes.{slotOf}
-use Rattle.slots.specs.Layout.{nextOf, headerOf}
-use Rattle.slot_file.specs.Sources.{Chains}
+use Rattle.slots.specs.Layout.{nextOf}
+use Rattle.slot_file.specs.Sources.{headerAt, Chains}
 use Rattle.slot_file.specs.Questions.{mostSlots, Question, Verdict, accepted, refused, headAsks, groupsSoFar, storesSoFar, groupAsks, storeAsks, lastAsks}
 
 -- the refusal of the first question that is answered no, and else v
@@ -26,10 +26,10 @@ afterAll s c = first (lastAsks s c) (accepted c)
 
 -- the store chain, after the groups of c
 unfoldable pub storeWalk : List ℕ → Chains → Verdict
-storeWalk s c = chain (λ (b : List ℕ). storeAsks s (storesSoFar c b)) (λ (b : List ℕ). afterAll s (storesSoFar c b)) mostSlots s [] (headerOf (slotOf s 0) .stores)
+storeWalk s c = chain (λ (b : List ℕ). storeAsks s (storesSoFar c b)) (λ (b : List ℕ). afterAll s (storesSoFar c b)) mostSlots s [] (headerAt s .stores)
 
 unfoldable pub groupWalk : List ℕ → Verdict
-groupWalk s = chain (λ (b : List ℕ). groupAsks s (groupsSoFar b)) (λ (b : List ℕ). storeWalk s (groupsSoFar b)) mostSlots s [] (headerOf (slotOf s 0) .groups)
+groupWalk s = chain (λ (b : List ℕ). groupAsks s (groupsSoFar b)) (λ (b : List ℕ). storeWalk s (groupsSoFar b)) mostSlots s [] (headerAt s .groups)
 
 unfoldable pub verdict : List ℕ → Verdict
 verdict s = first (headAsks s) (groupWalk s)

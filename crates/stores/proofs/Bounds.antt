@@ -22,26 +22,26 @@ exposure-most : (b : Bulk) → exposureParts b ≤ 23 * 1000 * 100 * 10
 unfolding exposureParts
 exposure-most b = k3-scaled (b .wind) .most ⊗ k4-scaled (b .openness) .most ⊗ k5-scaled (b .moisture) .most ⊗ k7-scaled (b .grain) .most
 
-pub handling-bounded : (h : Handling) → handlingInRange h ≡ true → Bounded (bulkTonnes (handlingPeak h)) (handlingPeak h)
+pub handling-bounded : (h : Handling) → handlingInRange h ≡ true → Bounded 1 (bulkTonnes (handlingPeak h)) (handlingPeak h)
 unfolding handlingParts
 handling-bounded h p =
     let b = h .bulk in
     let m : handlingParts h ≤ 60375000000000000 =
     le-refl 5 ⊗ k1-scaled (b .material) .most ⊗ k2-scaled (b .material) .most ⊗ exposure-most b
     ⊗ handling h p .bulk .amount ⊗ drop-scaled (h .drop) .most in
-    bounded (handling-counted h) (omega arith) (omega arith)
+    bounded 1 (handling-counted h) (omega arith) (omega arith)
 
-pub standing-bounded : (s : Standing) → standingInRange s ≡ true → Bounded (bulkTonnes (standingPeak s)) (standingPeak s)
+pub standing-bounded : (s : Standing) → standingInRange s ≡ true → Bounded 1 (bulkTonnes (standingPeak s)) (standingPeak s)
 unfolding standingParts
 standing-bounded s p =
     let r = standing s p in
     let m : standingParts s ≤ 138000000000000000 =
     le-refl 6 ⊗ exposure-most (s .bulk) ⊗ k6-scaled (s .k6) (r .k6) .most ⊗ q-scaled (s .bulk .material) .most ⊗ r .bulk .amount in
-    bounded (standing-counted s) (omega arith) (omega arith)
+    bounded 1 (standing-counted s) (omega arith) (omega arith)
 
-pub aspiration-bounded : (a : Aspiration) → aspirationInRange a ≡ true → Bounded (aspirationTonnes (aspirationPeak a) (a .hours)) (aspirationPeak a)
+pub aspiration-bounded : (a : Aspiration) → aspirationInRange a ≡ true → Bounded 1 (aspirationTonnes (aspirationPeak a) (a .hours)) (aspirationPeak a)
 unfolding aspirationParts
 aspiration-bounded a p =
     let r = aspiration a p in
     let m : aspirationParts a ≤ 10000000000000000 = r .concentration ⊗ r .flow ⊗ sub-le 10000 (a .capture) in
-    bounded (aspiration-counted a) (omega (arith, m ⊗ r .hours)) (omega arith)
+    bounded 1 (aspiration-counted a) (omega (arith, m ⊗ r .hours)) (omega arith)

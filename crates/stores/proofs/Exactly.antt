@@ -2,6 +2,7 @@
 -- Assumes nothing.
 use mathlib.Core.Path.{_≡_}
 use mathlib.Core.Bool.{true}
+use lib.Dec.{lit<}
 use Rattle.sums.specs.Choice.{if_then_else}
 use Rattle.sums.specs.Answer.{emitted}
 use Rattle.sums.proofs.Sources.{Exactly, exactly}
@@ -18,18 +19,18 @@ unfolding handlingAnswer if_then_else
 handling-emitted h p = simp p
 
 pub handling-exactly : (h : Handling) → handlingInRange h ≡ true → Exactly (handlingAnswer h .emission) (bulkTonnes (handlingPeak h)) (handlingPeak h)
-handling-exactly h p = rw (handling-emitted h p) (exactly (handlingContribution h) (handling-counted h) (handling-bounded h p))
+handling-exactly h p = rw (handling-emitted h p) (exactly (handlingContribution h) (lit< tt) (handling-counted h) (handling-bounded h p))
 
 pub standing-emitted : (s : Standing) → standingInRange s ≡ true → standingAnswer s .emission ≡ emitted (standingContribution s)
 unfolding standingAnswer if_then_else
 standing-emitted s p = simp p
 
 pub standing-exactly : (s : Standing) → standingInRange s ≡ true → Exactly (standingAnswer s .emission) (bulkTonnes (standingPeak s)) (standingPeak s)
-standing-exactly s p = rw (standing-emitted s p) (exactly (standingContribution s) (standing-counted s) (standing-bounded s p))
+standing-exactly s p = rw (standing-emitted s p) (exactly (standingContribution s) (lit< tt) (standing-counted s) (standing-bounded s p))
 
 pub aspiration-emitted : (a : Aspiration) → aspirationInRange a ≡ true → aspirationAnswer a .emission ≡ emitted (aspirationContribution a)
 unfolding aspirationAnswer if_then_else
 aspiration-emitted a p = simp p
 
 pub aspiration-exactly : (a : Aspiration) → aspirationInRange a ≡ true → Exactly (aspirationAnswer a .emission) (aspirationTonnes (aspirationPeak a) (a .hours)) (aspirationPeak a)
-aspiration-exactly a p = rw (aspiration-emitted a p) (exactly (aspirationContribution a) (aspiration-counted a) (aspiration-bounded a p))
+aspiration-exactly a p = rw (aspiration-emitted a p) (exactly (aspirationContribution a) (lit< tt) (aspiration-counted a) (aspiration-bounded a p))

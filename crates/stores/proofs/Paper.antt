@@ -9,7 +9,7 @@ use Rattle.sums.proofs.Fractions.{≈-refl, ≈-⊙, ≈-per, ≈-over, parts}
 use Rattle.sums.proofs.Sources.{Counted}
 use Rattle.sums.specs.Answer.{contribution}
 use Rattle.stores.specs.Rules.{handlingPeak, standingPeak, bulkTonnes, aspirationPeak, aspirationTonnes, codeOf, answer}
-use Rattle.stores.specs.Parts.{exposureParts, handlingParts, standingParts, aspirationParts, answerOf}
+use Rattle.stores.specs.Parts.{exposureParts, handlingParts, standingParts, aspirationParts, bulkUnits, bulkYearUnits, aspirationUnits, aspirationHourUnits, answerOf}
 use Rattle.stores.specs.declared.records.Handling.{Handling}
 use Rattle.stores.specs.declared.records.Standing.{Standing}
 use Rattle.stores.specs.declared.records.Aspiration.{Aspiration}
@@ -40,21 +40,21 @@ aspiration-parts a = ≈-over _ _ (lit< tt) (omega arith)
     (≈-⊙ (≈-⊙ (≈-refl (a .concentration) 1000 (lit< tt)) (≈-refl (a .flow) 1000 (lit< tt))) (≈-refl (10000 - a .capture) 10000 (lit< tt)))
 
 -- handling and standing alike
-bulk-counted : {peak : Frac} {n : ℕ} → peak ≈ (n over 6000000000000) → Counted (bulkTonnes peak) peak (n * 36792 * 2000) (n * 600)
+bulk-counted : {peak : Frac} {n : ℕ} → peak ≈ (n over 6000000000000) → Counted (bulkTonnes peak) peak (n * bulkYearUnits) (n * bulkUnits)
 unfolding bulkTonnes
 bulk-counted e = record {
   annual = ≈-over _ _ (lit< tt) (omega arith) (≈-⊙ (≈-⊙ (≈-refl 31536 1000 (lit< tt)) e) (≈-refl 7 10 (lit< tt)));
   peak = ≈-over _ _ (lit< tt) (omega arith) e;
 }
 
-pub handling-counted : (h : Handling) → Counted (bulkTonnes (handlingPeak h)) (handlingPeak h) (handlingParts h * 36792 * 2000) (handlingParts h * 600)
+pub handling-counted : (h : Handling) → Counted (bulkTonnes (handlingPeak h)) (handlingPeak h) (handlingParts h * bulkYearUnits) (handlingParts h * bulkUnits)
 handling-counted h = bulk-counted (handling-parts h)
 
-pub standing-counted : (s : Standing) → Counted (bulkTonnes (standingPeak s)) (standingPeak s) (standingParts s * 36792 * 2000) (standingParts s * 600)
+pub standing-counted : (s : Standing) → Counted (bulkTonnes (standingPeak s)) (standingPeak s) (standingParts s * bulkYearUnits) (standingParts s * bulkUnits)
 standing-counted s = bulk-counted (standing-parts s)
 
 pub aspiration-counted :
-    (a : Aspiration) → Counted (aspirationTonnes (aspirationPeak a) (a .hours)) (aspirationPeak a) (aspirationParts a * a .hours * 3600 * 2000) (aspirationParts a * 600 * 600)
+    (a : Aspiration) → Counted (aspirationTonnes (aspirationPeak a) (a .hours)) (aspirationPeak a) (aspirationParts a * a .hours * aspirationHourUnits) (aspirationParts a * aspirationUnits)
 unfolding aspirationTonnes
 aspiration-counted a =
     let e = aspiration-parts a in

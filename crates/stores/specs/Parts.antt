@@ -1,6 +1,7 @@
 -- What inner functions compute: the peaks of the rules as whole numbers of parts. The proofs show that they are the fractions of Rules.
-use Prim.Native.Nat.{ℕ, _*_, _-_}
+use Prim.Native.Nat.{ℕ, _*_, _/_, _-_}
 use Rattle.sums.specs.Fraction.{partsOf}
+use Rattle.sums.specs.Figures.{tonneParts, gramParts}
 use Rattle.sums.specs.Answer.{accepted}
 use Rattle.sums.specs.declared.annual.AnnualSum.{AnnualSum}
 use Rattle.sums.specs.declared.peak.PeakSum.{PeakSum}
@@ -27,6 +28,24 @@ standingParts s = 6 * exposureParts (s .bulk) * partsOf 100 (k6Of (s .k6)) * par
 -- grams per second, in 10,000,000,000ths
 unfoldable pub aspirationParts : Aspiration → ℕ
 aspirationParts a = a .concentration * a .flow * (10000 - a .capture)
+
+-- exact units in a 10,000,000,000,000,000th of a tonne
+abbrev tonneUnits : ℕ
+tonneUnits = tonneParts / 10000000000000000
+
+-- of a 6,000,000,000,000th of a gram per second those of the peak and of the year, in which it is 36,792 such parts of a tonne; and of a 10,000,000,000th of a gram
+-- per second those of the peak and of an hour, in which it is 3,600
+abbrev pub bulkUnits : ℕ
+bulkUnits = gramParts / 6000000000000
+
+abbrev pub bulkYearUnits : ℕ
+bulkYearUnits = 36792 * tonneUnits
+
+abbrev pub aspirationUnits : ℕ
+aspirationUnits = gramParts / 10000000000
+
+abbrev pub aspirationHourUnits : ℕ
+aspirationHourUnits = 3600 * tonneUnits
 
 -- an answer by its sums
 abbrev pub answerOf : ℕ → AnnualSum → PeakSum → StoreAnswer

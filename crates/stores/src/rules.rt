@@ -5,7 +5,7 @@ ghost use Prim.Native.Nat.{_*_, _≤_};
 ghost use Rattle.sums.specs.Figures.{annualOf, peakOf};
 ghost use Rattle.stores.specs.Fields.{bulkInRange, handlingInRange, standingInRange, aspirationInRange};
 ghost use Rattle.stores.specs.Rules.{outOfRange, handlingAnswer, standingAnswer, aspirationAnswer};
-ghost use Rattle.stores.specs.Parts.{exposureParts, handlingParts, standingParts, aspirationParts, answerOf};
+ghost use Rattle.stores.specs.Parts.{exposureParts, handlingParts, standingParts, aspirationParts, bulkUnits, bulkYearUnits, aspirationUnits, aspirationHourUnits, answerOf};
 use super::records;
 use super::records::Aspiration;
 use super::records::Bulk;
@@ -74,29 +74,43 @@ fn answer(dust: u8, annual: AnnualSum, peak: PeakSum) -> StoreAnswer
     }
 }
 
-// A peak in 6,000,000,000,000ths of a gram per second, 600 exact units each. 31.536 times 0.7 of one is 36,792 times a 10,000,000,000,000,000th of a
-// tonne, which is 2,000 exact units.
+// Exact units in a 10,000,000,000,000,000th of a tonne: 2,000.
+const TONNE_UNITS: u32 = (AnnualSum::DENOMINATOR / 10_000_000_000) as u32;
+
+// Of a 6,000,000,000,000th of a gram per second, handled or standing, the exact units of the peak, 120, and of the year: 31.536 times 0.7 of it is 36,792 times a
+// 10,000,000,000,000,000th of a tonne.
+const BULK_UNITS: u32 = (PeakSum::DENOMINATOR / 600_000) as u32;
+
+const BULK_YEAR_UNITS: u32 = 36_792 * TONNE_UNITS;
+
+// Of a 10,000,000,000th of a gram per second, aspirated, those of the peak, 72,000, and of an hour: 0.0036 of it is 3,600 times a 10,000,000,000,000,000th of a tonne.
+const ASPIRATION_UNITS: u32 = (PeakSum::DENOMINATOR / 1_000) as u32;
+
+const ASPIRATION_HOUR_UNITS: u32 = 3_600 * TONNE_UNITS;
+
+// A peak in 6,000,000,000,000ths of a gram per second.
 fn bulk_answer(dust: u8, parts: u64) -> StoreAnswer
     requires { ⌜ (1 ≤ dust) × (dust ≤ 3) ⌝ }
-    ensures { λ r. ⌜ r ≡ answerOf dust (annualOf (parts * 36792 * 2000)) (peakOf (parts * 600)) ⌝ }
+    ensures { λ r. ⌜ r ≡ answerOf dust (annualOf (parts * bulkYearUnits)) (peakOf (parts * bulkUnits)) ⌝ }
 {
     answer(
         dust,
-        AnnualSum::of(parts).times(36_792).times(2_000),
-        PeakSum::of(parts).times(600),
+        AnnualSum::of(parts).times(BULK_YEAR_UNITS),
+        PeakSum::of(parts).times(BULK_UNITS),
     )
 }
 
-// A peak in 10,000,000,000ths of a gram per second, 600 times 600 exact units each. 0.0036 of one, for each hour of a year, is 3,600 times a
-// 10,000,000,000,000,000th of a tonne, which is 2,000 exact units.
+// A peak in 10,000,000,000ths of a gram per second.
 fn aspiration_answer(dust: u8, parts: u64, hours: u16) -> StoreAnswer
     requires { ⌜ (1 ≤ dust) × (dust ≤ 3) ⌝ }
-    ensures { λ r. ⌜ r ≡ answerOf dust (annualOf (parts * hours * 3600 * 2000)) (peakOf (parts * 600 * 600)) ⌝ }
+    ensures { λ r. ⌜ r ≡ answerOf dust (annualOf (parts * hours * aspirationHourUnits)) (peakOf (parts * aspirationUnits)) ⌝ }
 {
     answer(
         dust,
-        AnnualSum::of(parts).times(hours).times(3_600).times(2_000),
-        PeakSum::of(parts).times(600).times(600),
+        AnnualSum::of(parts)
+            .times(hours as u32)
+            .times(ASPIRATION_HOUR_UNITS),
+        PeakSum::of(parts).times(ASPIRATION_UNITS),
     )
 }
 

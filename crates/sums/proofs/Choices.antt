@@ -3,7 +3,7 @@
 use Prim.Native.Nat.{ℕ, zero, suc, _+_, _*_, _<_, _≤_, zero-le}
 use mathlib.Core.Logic.{⊎-elim}
 use native.Mathlib.Numerals.{add-one}
-use native.Mathlib.Nat.{not-suc-le-zero, eq-or-lt-of-le, le-of-suc-le-suc}
+use native.Mathlib.Nat.{not-suc-le-zero, eq-or-lt-of-le, le-of-suc-le-suc, le-of-mul-le-mul-right}
 use native.Mathlib.Omega.{arith}
 use mathlib.Core.Path.{_≡_, refl, sym, _∙_, subst}
 use mathlib.Core.Bool.{Bool, true, false, _&&_}
@@ -83,6 +83,11 @@ pub sumTo-step : (n : ℕ) (f : ℕ → ℕ) → sumTo (n + 1) f ≡ sumTo n f +
 unfolding sumTo
 sumTo-step n f = rw add-one
 
+pub sumTo-front : (n : ℕ) (f : ℕ → ℕ) → sumTo (suc n) f ≡ f 0 + sumTo n (λ (i : ℕ). f (suc i))
+unfolding sumTo
+sumTo-front zero f = omega arith
+sumTo-front (suc n) f = omega (arith, sumTo-front n f)
+
 pub sumTo-times : (k : ℕ) (f : ℕ → ℕ) (n : ℕ) → sumTo n (λ (i : ℕ). f i * k) ≡ sumTo n f * k
 unfolding sumTo
 sumTo-times k f zero = omega arith
@@ -95,6 +100,11 @@ sumTo-bound b f (suc n) h =
     let e = sumTo-bound b f n (λ (i : ℕ) (p : i < n). h i (omega arith)) in
     let l = h n (omega arith) in
     omega arith
+
+-- n numbers of which each is at most an n-th of b
+pub sumTo-share : (b : ℕ) (f : ℕ → ℕ) (n : ℕ) → 0 < n → ((i : ℕ) → i < n → n * f i ≤ b) → sumTo n f ≤ b
+sumTo-share b f n z h =
+    le-of-mul-le-mul-right (omega (arith, sumTo-times n f n, sumTo-bound b (λ (i : ℕ). f i * n) n (λ (i : ℕ) (p : i < n). omega (arith, h i p)))) z
 
 -- a list that a loop fills: one place more, and all of them
 module _ {A : Type 0} (d : A) where

@@ -1,56 +1,69 @@
--- The sums of a full file are exact. Terms added one by one are what their sum makes, since the turns that a mixed number drops change none; and
--- 1,023 terms, none above what a source can give, stay below 2 ^ 64 units, where it drops nothing. Assumes nothing.
+-- The sums of full files are exact. Terms added one by one are what their sum makes, since the turns that two words drop change none; and so many terms, none
+-- above what a source can give, stay below 2 ^ 64 printed units, where neither a sum nor its figure drops anything. Assumes nothing.
 use mathlib.Core.Path.{_≡_, refl, ap, _∙_}
 use Prim.Native.Nat.{ℕ, zero, suc, _+_, _*_, _%_, _<_, _≤_, _^_}
-use native.Mathlib.Nat.{mul-le-mul, le-refl, mod-eq-of-lt, div-lt-iff-lt-mul}
+use native.Mathlib.Nat.{mul-le-mul, le-refl, lt-of-lt-of-le, mod-eq-of-lt, div-lt-iff-lt-mul}
 use native.Mathlib.Omega.{arith}
 use lib.Dec.{lit<}
 use Rattle.sums.specs.Choice.{sumTo}
 use Rattle.sums.specs.Fraction.{_over_}
-use Rattle.sums.specs.Figures.{annualDenominator, peakDenominator, partsIn, mixedOf, nearest}
+use Rattle.sums.specs.Figures.{annualDenominator, peakDenominator, unitsIn, wordsOf, nearest}
 use Rattle.sums.specs.declared.mixed.Mixed.{Mixed}
 use Rattle.sums.proofs.Choices.{sumTo-bound}
-use Rattle.sums.proofs.Wrapping.{mixed-plus, mixed-exact}
+use Rattle.sums.proofs.Wrapping.{words-plus, words-exact}
 
--- no source gives a code more than this, in exact units
+-- no source gives a code more than this, in exact units: 150,000,000 tonnes a year, and 27,000,000 grams per second
 abbrev pub annualMost : ℕ
-annualMost = 1000000000000000000000000000
+annualMost = 3000000000000000000000000000
 
 abbrev pub peakMost : ℕ
-peakMost = 10000000000000000000000
+peakMost = 20000000000000000000000
+
+-- sources in a file, and files whose annual sums are added
+abbrev pub sourcesMost : ℕ
+sourcesMost = 1023
+
+abbrev pub filesMost : ℕ
+filesMost = 64
 
 -- n terms, added one by one
-unfoldable pub addedTo : ℕ → ℕ → (ℕ → ℕ) → Mixed
-addedTo d zero f = mixedOf d 0
-addedTo d (suc n) f = mixedOf d (partsIn d (addedTo d n f) + partsIn d (mixedOf d (f n)))
+unfoldable pub addedTo : ℕ → (ℕ → ℕ) → Mixed
+addedTo zero f = wordsOf 0
+addedTo (suc n) f = wordsOf (unitsIn (addedTo n f) + unitsIn (wordsOf (f n)))
 
 pub record Exact (d n : ℕ) (f : ℕ → ℕ) : Type 0 where
-  pub sum : partsIn d (addedTo d n f) ≡ sumTo n f
-  pub figure : nearest (partsIn d (addedTo d n f) over d) % 2 ^ 64 ≡ nearest (sumTo n f over d)
+  pub sum : unitsIn (addedTo n f) ≡ sumTo n f
+  pub figure : nearest (unitsIn (addedTo n f) over d) % 2 ^ 64 ≡ nearest (sumTo n f over d)
 
--- the figure of a mixed number that drops nothing
-pub figure-exact : (d : ℕ) → 0 < d → (x : ℕ) → x + d < 2 ^ 64 * d → nearest (partsIn d (mixedOf d x) over d) % 2 ^ 64 ≡ nearest (x over d)
+-- such a figure has 64 bits
+figure-fits : (d : ℕ) → 0 < d → (x : ℕ) → x + d < 2 ^ 64 * d → nearest (x over d) < 2 ^ 64
 unfolding nearest
-figure-exact d pos x h =
-    let p : 0 < 2 * d = omega arith in
-    rw (mixed-exact d pos x (omega arith)) (mod-eq-of-lt (div-lt-iff-lt-mul p .1 (omega arith)))
+figure-fits d pos x h = let p : 0 < 2 * d = omega arith in div-lt-iff-lt-mul p .1 (omega arith)
 
-module _ (d : ℕ) (pos : 0 < d) (f : ℕ → ℕ) where
-  added : (n : ℕ) → addedTo d n f ≡ mixedOf d (sumTo n f)
-  unfolding addedTo sumTo
-  added zero = refl
-  added (suc n) = rw (added n) (mixed-plus d pos (sumTo n f) (f n))
+-- a denominator that fits a word
+module _ (d : ℕ) (pos : 0 < d) (word : d ≤ 2 ^ 64) where
+  -- below 2 ^ 64 printed units no unit is dropped
+  pub sum-exact : (x : ℕ) → x + d < 2 ^ 64 * d → unitsIn (wordsOf x) ≡ x
+  sum-exact x h = let k : x < 2 ^ 64 * d = omega arith in words-exact x (lt-of-lt-of-le k (mul-le-mul (le-refl (2 ^ 64)) word))
 
-  exact : (n : ℕ) → sumTo n f + d < 2 ^ 64 * d → Exact d n f
-  exact n h =
-      let m = added n in
-      record { sum = ap (partsIn d) m ∙ mixed-exact d pos (sumTo n f) (omega arith); figure = rw m (figure-exact d pos (sumTo n f) h) }
+  pub figure-exact : (x : ℕ) → x + d < 2 ^ 64 * d → nearest (unitsIn (wordsOf x) over d) % 2 ^ 64 ≡ nearest (x over d)
+  figure-exact x h = rw (sum-exact x h) (mod-eq-of-lt (figure-fits d pos x h))
 
-  full : (most : ℕ) → 1023 * most + d < 2 ^ 64 * d → (n : ℕ) → n ≤ 1023 → ((i : ℕ) → i < n → f i ≤ most) → Exact d n f
-  full most h n l b = exact n (omega (arith, sumTo-bound most f n b, mul-le-mul l (le-refl most)))
+  module _ (f : ℕ → ℕ) where
+    added : (n : ℕ) → addedTo n f ≡ wordsOf (sumTo n f)
+    unfolding addedTo sumTo
+    added zero = refl
+    added (suc n) = rw (added n) (words-plus (sumTo n f) (f n))
 
-pub full-annual : (f : ℕ → ℕ) (n : ℕ) → n ≤ 1023 → ((i : ℕ) → i < n → f i ≤ annualMost) → Exact annualDenominator n f
-full-annual f = full annualDenominator (lit< tt) f annualMost (lit< tt)
+    exact : (n : ℕ) → sumTo n f + d < 2 ^ 64 * d → Exact d n f
+    exact n h = let m = added n in record { sum = ap unitsIn m ∙ sum-exact (sumTo n f) h; figure = rw m (figure-exact (sumTo n f) h) }
 
-pub full-peak : (f : ℕ → ℕ) (n : ℕ) → n ≤ 1023 → ((i : ℕ) → i < n → f i ≤ peakMost) → Exact peakDenominator n f
-full-peak f = full peakDenominator (lit< tt) f peakMost (lit< tt)
+    full : (terms most : ℕ) → terms * most + d < 2 ^ 64 * d → (n : ℕ) → n ≤ terms → ((i : ℕ) → i < n → f i ≤ most) → Exact d n f
+    full terms most h n l b = exact n (omega (arith, sumTo-bound most f n b, mul-le-mul l (le-refl most)))
+
+-- the sources of 64 full files, and of one
+pub full-annual : (f : ℕ → ℕ) (n : ℕ) → n ≤ filesMost * sourcesMost → ((i : ℕ) → i < n → f i ≤ annualMost) → Exact annualDenominator n f
+full-annual f = full annualDenominator (lit< tt) (omega arith) f (filesMost * sourcesMost) annualMost (lit< tt)
+
+pub full-peak : (f : ℕ → ℕ) (n : ℕ) → n ≤ sourcesMost → ((i : ℕ) → i < n → f i ≤ peakMost) → Exact peakDenominator n f
+full-peak f = full peakDenominator (lit< tt) (omega arith) f sourcesMost peakMost (lit< tt)

@@ -1,36 +1,40 @@
 -- What a source gives, in exact units: where its tonnes and its rate are so many units, none above what a full file's sums allow, the emission that a
 -- rule answers has exactly them, since a sum drops nothing that small. Assumes nothing.
-use Prim.Native.Nat.{ℕ, _≤_}
-use native.Mathlib.Nat.{lt-of-le-of-lt}
+use mathlib.Core.Path.{_≡_}
+use Prim.Native.Nat.{ℕ, _*_, _<_, _≤_}
+use native.Mathlib.Nat.{le-refl, mul-le-mul}
+use native.Mathlib.Omega.{arith}
 use lib.Dec.{lit<}
 use Rattle.sums.specs.Fraction.{Frac, _over_, _≈_, partsOf}
 use Rattle.sums.specs.Figures.{annualDenominator, peakDenominator, tonneParts, gramParts, annualParts, peakParts}
 use Rattle.sums.specs.Answer.{Contribution, emitted}
 use Rattle.sums.specs.declared.answer.Emission.{Emission}
-use Rattle.sums.proofs.Exact.{annualMost, peakMost}
+use Rattle.sums.proofs.Exact.{annualMost, peakMost, sum-exact}
 use Rattle.sums.proofs.Fractions.{parts}
-use Rattle.sums.proofs.Wrapping.{mixed-exact}
 
 -- a year's tonnes and a peak, each in its exact units
 pub record Counted (tonnes rate : Frac) (a p : ℕ) : Type 0 where
   pub annual : tonnes ≈ (a over tonneParts)
   pub peak : rate ≈ (p over gramParts)
 
--- within what a full file's sums allow a source
-pub record Bounded (tonnes rate : Frac) : Type 0 where
-  pub annual : partsOf tonneParts tonnes ≤ annualMost
-  pub peak : partsOf gramParts rate ≤ peakMost
+-- within what a full file's sums allow a source that gives so much at most k times
+pub record Bounded (k : ℕ) (tonnes rate : Frac) : Type 0 where
+  pub annual : k * partsOf tonneParts tonnes ≤ annualMost
+  pub peak : k * partsOf gramParts rate ≤ peakMost
 
-pub bounded : {tonnes rate : Frac} {a p : ℕ} → Counted tonnes rate a p → a ≤ annualMost → p ≤ peakMost → Bounded tonnes rate
-bounded e h k = record { annual = rw (parts (e .annual)) h; peak = rw (parts (e .peak)) k }
+pub bounded : {tonnes rate : Frac} {a p : ℕ} (k : ℕ) → Counted tonnes rate a p → k * a ≤ annualMost → k * p ≤ peakMost → Bounded k tonnes rate
+bounded k e h l = record { annual = rw (parts (e .annual)) h; peak = rw (parts (e .peak)) l }
 
 -- the emission has exactly so many tonnes a year, and so many grams per second
 pub record Exactly (e : Emission) (tonnes rate : Frac) : Type 0 where
   pub annual : tonnes ≈ (annualParts (e .annual) over tonneParts)
   pub peak : rate ≈ (peakParts (e .peak) over gramParts)
 
-pub exactly : (x : Contribution) {a p : ℕ} → Counted (x .tonnes) (x .rate) a p → Bounded (x .tonnes) (x .rate) → Exactly (emitted x) (x .tonnes) (x .rate)
-exactly x e b = record {
-  annual = rw (mixed-exact annualDenominator (lit< tt) _ (lt-of-le-of-lt (b .annual) (lit< tt)), parts (e .annual)) (e .annual);
-  peak = rw (mixed-exact peakDenominator (lit< tt) _ (lt-of-le-of-lt (b .peak) (lit< tt)), parts (e .peak)) (e .peak);
-}
+pub exactly : (x : Contribution) {a p k : ℕ} → 0 < k → Counted (x .tonnes) (x .rate) a p → Bounded k (x .tonnes) (x .rate) → Exactly (emitted x) (x .tonnes) (x .rate)
+exactly x z e b =
+    let t = partsOf tonneParts (x .tonnes) in
+    let r = partsOf gramParts (x .rate) in
+    record {
+      annual = rw (sum-exact annualDenominator (lit< tt) (omega arith) t (omega (arith, mul-le-mul z (le-refl t), b .annual)), parts (e .annual)) (e .annual);
+      peak = rw (sum-exact peakDenominator (lit< tt) (omega arith) r (omega (arith, mul-le-mul z (le-refl r), b .peak)), parts (e .peak)) (e .peak);
+    }

@@ -1,33 +1,18 @@
--- Mixed numbers over any denominator d. What a mixed number drops is a whole number of turns of 2 ^ 64 units, and a turn more or less
--- changes none: so sums and multiples of mixed numbers are those of what they stand for, whatever was dropped on the way.
--- Assumes nothing.
+-- What a mixed number over any d drops is a whole number of turns of 2 ^ 64 units, and a turn more or less changes none: so sums and multiples of mixed
+-- numbers, and with them of two words, are those of what they stand for, whatever was dropped on the way. Assumes nothing.
 use mathlib.Core.Path.{_≡_, sym, ap, _∙_}
-use Prim.Native.Nat.{ℕ, _+_, _*_, _/_, _%_, _^_, _<_, _≤_}
-use native.Mathlib.Nat.{le-of-lt, mod-lt, mod-eq-of-lt, div-add-mod', div-lt-iff-lt-mul, add-mul-div-right, add-mul-mod-self-right}
+use Prim.Native.Nat.{ℕ, _+_, _*_, _/_, _%_, _^_, _<_}
+use native.Mathlib.Nat.{mod-eq-of-lt, div-add-mod', div-lt-iff-lt-mul, add-mul-div-right, add-mul-mod-self-right}
 use native.Mathlib.Omega.{arith}
-use Rattle.sums.specs.Arithmetic.{Denominator}
-use Rattle.sums.specs.Figures.{partsIn, mixedOf}
+use lib.Dec.{lit<}
+use Rattle.sums.specs.Figures.{partsIn, mixedOf, unitsIn, wordsOf}
 use Rattle.sums.specs.declared.mixed.Mixed.{Mixed}
 
 -- a mixed number by its fields
 the-mixed : {s t : Mixed} → s .whole ≡ t .whole → s .part ≡ t .part → s ≡ t
 the-mixed p q = λ i. record { whole = p i; part = q i }
 
--- what is asked of a denominator: a u64 has few units, and what is left of one is small
-pub positive : {d : ℕ} → Denominator d → 0 < d
-positive h = omega arith
-
-pub few : {d : ℕ} (p : ℕ) → Denominator d → p < 2 ^ 64 → p / d ≤ 140737488355328
-few p h b = le-of-lt (div-lt-iff-lt-mul (positive h) .1 (omega arith))
-
-pub small : {d : ℕ} (p : ℕ) → Denominator d → p % d ≤ 140737488355328
-small p h = omega (arith, mod-lt p (positive h))
-
 module _ (d : ℕ) (pos : 0 < d) where
-  -- parts by their units and what is left
-  pub split : (p q r : ℕ) → q ≡ p / d → r ≡ p % d → p ≡ r + q * d
-  split p q r e f = rw (e, f) (omega (arith, div-add-mod' p d))
-
   -- w units and p parts, of which q units can be taken and leave r
   pub gathered : (w p q r : ℕ) → p ≡ r + q * d → record { whole = (w + (q + r / d)) % 2 ^ 64; part = r % d } ≡ mixedOf d (w * d + p)
   unfolding mixedOf
@@ -50,13 +35,23 @@ module _ (d : ℕ) (pos : 0 < d) where
       (ap (λ (n : ℕ). n % 2 ^ 64) (ap (λ (n : ℕ). n / d) f ∙ add-mul-div-right x (k * 2 ^ 64) pos) ∙ add-mul-mod-self-right (x / d) k (2 ^ 64))
       (ap (λ (n : ℕ). n % d) f ∙ add-mul-mod-self-right x (k * 2 ^ 64) d)
 
-  pub mixed-plus : (a b : ℕ) → mixedOf d (partsIn d (mixedOf d a) + partsIn d (mixedOf d b)) ≡ mixedOf d (a + b)
+  mixed-plus : (a b : ℕ) → mixedOf d (partsIn d (mixedOf d a) + partsIn d (mixedOf d b)) ≡ mixedOf d (a + b)
   mixed-plus a b = sym (turns _ (a / d / 2 ^ 64 + b / d / 2 ^ 64)) ∙ ap (mixedOf d) (omega (arith, held a, held b))
 
-  pub mixed-times : (x k : ℕ) → mixedOf d (partsIn d (mixedOf d x) * k) ≡ mixedOf d (x * k)
+  mixed-times : (x k : ℕ) → mixedOf d (partsIn d (mixedOf d x) * k) ≡ mixedOf d (x * k)
   mixed-times x k = sym (turns _ (x / d / 2 ^ 64 * k)) ∙ ap (mixedOf d) (omega (arith, ap (λ (n : ℕ). n * k) (held x)))
 
   -- below 2 ^ 64 units nothing is dropped
-  pub mixed-exact : (x : ℕ) → x < 2 ^ 64 * d → partsIn d (mixedOf d x) ≡ x
+  mixed-exact : (x : ℕ) → x < 2 ^ 64 * d → partsIn d (mixedOf d x) ≡ x
   unfolding mixedOf partsIn
   mixed-exact x h = rw (mod-eq-of-lt (div-lt-iff-lt-mul pos .1 h)) (div-add-mod' x d)
+
+-- of two words
+pub words-plus : (a b : ℕ) → wordsOf (unitsIn (wordsOf a) + unitsIn (wordsOf b)) ≡ wordsOf (a + b)
+words-plus = mixed-plus (2 ^ 64) (lit< tt)
+
+pub words-times : (x k : ℕ) → wordsOf (unitsIn (wordsOf x) * k) ≡ wordsOf (x * k)
+words-times = mixed-times (2 ^ 64) (lit< tt)
+
+pub words-exact : (x : ℕ) → x < 2 ^ 64 * 2 ^ 64 → unitsIn (wordsOf x) ≡ x
+words-exact = mixed-exact (2 ^ 64) (lit< tt)

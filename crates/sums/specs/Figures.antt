@@ -9,7 +9,7 @@ use Rattle.sums.specs.declared.peak.PeakSum.{PeakSum}
 unfoldable pub nearest : Frac → ℕ
 nearest x = (2 * x .num + x .den) / (2 * x .den)
 
--- a mixed number over the denominator d counts so many d-ths of a unit
+-- a mixed number over d counts so many d-ths of a unit
 unfoldable pub partsIn : ℕ → Mixed → ℕ
 partsIn d m = m .whole * d + m .part
 
@@ -23,7 +23,7 @@ abbrev pub annualDenominator : ℕ
 annualDenominator = 20000000000000
 
 abbrev pub peakDenominator : ℕ
-peakDenominator = 360000000
+peakDenominator = 72000000
 
 -- and so in a tonne, and in a gram per second
 abbrev pub tonneParts : ℕ
@@ -32,18 +32,32 @@ tonneParts = 1000000 * annualDenominator
 abbrev pub gramParts : ℕ
 gramParts = 10000000 * peakDenominator
 
+-- "Sums can pass 64 bits": a sum is a whole number of exact units in two words of 64 bits, which are a mixed number over 2 ^ 64
+abbrev pub unitsIn : Mixed → ℕ
+unitsIn m = partsIn (2 ^ 64) m
+
+abbrev pub wordsOf : ℕ → Mixed
+wordsOf x = mixedOf (2 ^ 64) x
+
 -- the exact units of a sum, and the sum of so many
 abbrev pub annualParts : AnnualSum → ℕ
-annualParts s = partsIn annualDenominator (s .0)
+annualParts s = unitsIn (s .0)
 
 abbrev pub annualOf : ℕ → AnnualSum
-annualOf x = record { 0 = mixedOf annualDenominator x }
+annualOf x = record { 0 = wordsOf x }
 
 abbrev pub peakParts : PeakSum → ℕ
-peakParts s = partsIn peakDenominator (s .0)
+peakParts s = unitsIn (s .0)
 
 abbrev pub peakOf : ℕ → PeakSum
-peakOf x = record { 0 = mixedOf peakDenominator x }
+peakOf x = record { 0 = wordsOf x }
+
+-- a sum as whole printed units, of which it has 64 bits, and what is left of one over the denominator
+abbrev pub annualPrinted : AnnualSum → Mixed
+annualPrinted s = mixedOf annualDenominator (annualParts s)
+
+abbrev pub peakPrinted : PeakSum → Mixed
+peakPrinted s = mixedOf peakDenominator (peakParts s)
 
 -- the figure of a sum
 abbrev pub annualFigure : AnnualSum → ℕ

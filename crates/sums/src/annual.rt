@@ -1,7 +1,7 @@
 // The exact annual sum.
 ghost use mathlib.Core.Path.{_≡_};
 ghost use Prim.Native.Nat.{_+_, _*_, _%_, _^_};
-ghost use Rattle.sums.specs.Figures.{annualOf, annualParts, annualFigure};
+ghost use Rattle.sums.specs.Figures.{annualOf, annualParts, annualPrinted, annualFigure};
 use super::mixed::Mixed;
 
 // Millionths of a tonne.
@@ -20,7 +20,7 @@ impl AnnualSum {
     pub fn of(x: u64) -> Self
         ensures { λ r. ⌜ r ≡ annualOf x ⌝ }
     {
-        Self(Mixed::of(x, Self::DENOMINATOR))
+        Self(Mixed::of(x))
     }
 
     pub fn plus(self, other: Self) -> Self
@@ -28,14 +28,22 @@ impl AnnualSum {
     {
         let a = self.0;
         let b = other.0;
-        Self(a.plus(b, Self::DENOMINATOR))
+        Self(a.plus(b))
     }
 
-    pub fn times(self, k: u16) -> Self
+    pub fn times(self, k: u32) -> Self
         ensures { λ r. ⌜ r ≡ annualOf (annualParts self * k) ⌝ }
     {
         let a = self.0;
-        Self(a.times(k, Self::DENOMINATOR))
+        Self(a.times(k))
+    }
+
+    // Whole printed units, and a part of one over the denominator.
+    pub fn printed(self) -> Mixed
+        ensures { λ r. ⌜ r ≡ annualPrinted self ⌝ }
+    {
+        let a = self.0;
+        a.over(Self::DENOMINATOR)
     }
 
     pub fn rounded(self) -> u64

@@ -1,7 +1,7 @@
 // The exact peak sum.
 ghost use mathlib.Core.Path.{_≡_};
 ghost use Prim.Native.Nat.{_+_, _*_, _%_, _^_};
-ghost use Rattle.sums.specs.Figures.{peakOf, peakParts, peakFigure};
+ghost use Rattle.sums.specs.Figures.{peakOf, peakParts, peakPrinted, peakFigure};
 use super::mixed::Mixed;
 
 // Ten-millionths of a gram per second.
@@ -9,7 +9,7 @@ pub struct PeakSum(pub Mixed);
 
 impl PeakSum {
     // Exact units in a ten-millionth of a gram per second.
-    pub const DENOMINATOR: u64 = 360_000_000;
+    pub const DENOMINATOR: u64 = 72_000_000;
 
     pub fn zero() -> Self
         ensures { λ r. ⌜ r ≡ peakOf 0 ⌝ }
@@ -20,7 +20,7 @@ impl PeakSum {
     pub fn of(x: u64) -> Self
         ensures { λ r. ⌜ r ≡ peakOf x ⌝ }
     {
-        Self(Mixed::of(x, Self::DENOMINATOR))
+        Self(Mixed::of(x))
     }
 
     pub fn plus(self, other: Self) -> Self
@@ -28,14 +28,22 @@ impl PeakSum {
     {
         let a = self.0;
         let b = other.0;
-        Self(a.plus(b, Self::DENOMINATOR))
+        Self(a.plus(b))
     }
 
-    pub fn times(self, k: u16) -> Self
+    pub fn times(self, k: u32) -> Self
         ensures { λ r. ⌜ r ≡ peakOf (peakParts self * k) ⌝ }
     {
         let a = self.0;
-        Self(a.times(k, Self::DENOMINATOR))
+        Self(a.times(k))
+    }
+
+    // Whole printed units, and a part of one over the denominator.
+    pub fn printed(self) -> Mixed
+        ensures { λ r. ⌜ r ≡ peakPrinted self ⌝ }
+    {
+        let a = self.0;
+        a.over(Self::DENOMINATOR)
     }
 
     pub fn rounded(self) -> u64

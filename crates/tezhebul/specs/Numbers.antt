@@ -4,6 +4,7 @@ use mathlib.Core.List.{List, [], _∷_, _++_}
 use lib.Dec.{leb}
 use lib.ListN.{length, drop}
 use Rattle.sums.specs.Choice.{if_then_else}
+use Rattle.sums.specs.Figures.{annualPrinted, peakPrinted}
 use Rattle.sums.specs.declared.answer.Verdict.{Verdict}
 use Rattle.sums.specs.declared.answer.Emission.{Emission}
 use Rattle.stores.specs.declared.rules.StoreAnswer.{StoreAnswer}
@@ -30,7 +31,8 @@ into l buffer = if_then_else (leb (length l) (length buffer)) (l ++ drop (length
 
 -- an emission: the substance code, then the exact annual sum and the exact peak sum, each as whole printed units and the part of one that is left over its denominator
 abbrev pub emissionNumbers : Emission → List ℕ
-emissionNumbers e = e .code ∷ e .annual .0 .whole ∷ e .annual .0 .part ∷ e .peak .0 .whole ∷ e .peak .0 .part ∷ []
+emissionNumbers e =
+    e .code ∷ annualPrinted (e .annual) .whole ∷ annualPrinted (e .annual) .part ∷ peakPrinted (e .peak) .whole ∷ peakPrinted (e .peak) .part ∷ []
 
 abbrev pub emissionSize : ℕ
 emissionSize = 5

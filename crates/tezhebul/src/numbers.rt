@@ -62,8 +62,10 @@ pub(crate) fn numbers_of(a: Answer) -> [u64; ANSWER_SIZE]
 fn emission_numbers(e: Emission) -> [u64; EMISSION_SIZE]
     ensures { λ r. ⌜ r ≡ emissionNumbers e ⌝ }
 {
-    let annual = e.annual.0;
-    let peak = e.peak.0;
+    let a = e.annual;
+    let p = e.peak;
+    let annual = a.printed();
+    let peak = p.printed();
     [
         e.code as u64,
         annual.whole,

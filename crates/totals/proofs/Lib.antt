@@ -1,4 +1,4 @@
 -- The laws that belong to no one function.
-pub mod Forty
 pub mod Places
+pub mod Adding
 pub mod Sums

@@ -1,79 +1,109 @@
--- Totals of exact units: an emission adds the units of its contribution to the sums of its code, and the six of a group add theirs. Code by
--- code, and since sums of mixed numbers are those of what they stand for. Assumes nothing.
-use Prim.Native.Nat.{ℕ, zero, suc, _+_, _≤_}
+-- An emission adds the units of its contribution, column by column, to the sums of its code, and the emissions of a group add theirs. Assumes nothing.
+use Prim.Native.Nat.{ℕ, zero, suc, _+_, _*_, _<_, _≤_}
+use native.Mathlib.Nat.{le-refl}
 use native.Mathlib.Omega.{arith}
-use mathlib.Core.Path.{_≡_, refl, ap, _∙_}
-use mathlib.Core.Bool.{Bool, true, false}
-use mathlib.Core.List.{List, [], _∷_, map}
-use lib.Dec.{eqb, lit<}
-use lib.ListN.{getD}
+use mathlib.Core.Path.{_≡_, refl, ap, sym, subst, _∙_}
+use mathlib.Core.List.{List}
+use lib.Dec.{eqb, ltb, lit<}
+use lib.ListN.{getD, length, replicate}
+use borrow.Author.Tests.{eq-eqb, ltb-true, ltb-false}
 use Rattle.sums.specs.Choice.{if_then_else, sumTo, listTo}
 use Rattle.sums.specs.Fraction.{partsOf}
-use Rattle.sums.specs.Figures.{annualDenominator, peakDenominator, tonneParts, gramParts, annualOf, annualParts, peakOf, peakParts}
+use Rattle.sums.specs.Figures.{mixedOf, tonneParts, gramParts, unitsIn, wordsOf}
 use Rattle.sums.specs.Answer.{Contribution, emitted, noEmission}
 use Rattle.sums.specs.declared.answer.Emission.{Emission}
-use Rattle.sums.specs.declared.mixed.Mixed.{Mixed}
-use Rattle.sums.proofs.Choices.{listTo-at}
-use Rattle.sums.proofs.Wrapping.{mixed-plus}
-use Rattle.slot_file.specs.Codes.{codes}
+use Rattle.sums.proofs.Choices.{yes, cases, sumTo-front, listTo-at}
+use Rattle.slot_file.specs.Codes.{codes, codeCount, placeOf}
 use Rattle.slot_file.specs.Alike.{total}
-use Rattle.slot_file.specs.Parts.{partsTo, annualTo, peakTo}
-use Rattle.totals.specs.Totals.{Totals, moreFor, totalsOf, plusEmission, plusTo}
+use Rattle.slot_file.specs.Parts.{partsTo}
+use Rattle.totals.specs.Totals.{columnCount, numberCount, sumPlace, noNumbers, plusAt, plusBoth, plusIn, plusToIn, column, Sums}
+use Rattle.totals.proofs.Adding.{plus-length, Column, column-kept, column-more, not-placed}
 
-pub same-totals : (a b p q : ℕ → ℕ) → ((c : ℕ) → a c ≡ b c) → ((c : ℕ) → p c ≡ q c) → totalsOf a p ≡ totalsOf b q
-same-totals a b p q h k = λ i. record { annual = map (λ (c : ℕ). annualOf (h c i)) codes; peak = map (λ (c : ℕ). peakOf (k c i)) codes }
+-- the same units
+pub same-sums : (f g : ℕ → ℕ → ℕ) (l : List ℕ) → ((q c : ℕ) → f q c ≡ g q c) → Sums f l → Sums g l
+same-sums f g l e s = record { room = s .room; sums-are = λ q p h k. s .sums-are q p h k ∙ ap wordsOf (e q (getD codes p 0)) }
 
--- y units are added to the code c, of either kind of sum
-module _ {S : Type 0} (of : ℕ → S) (parts : S → ℕ) (adds : (a b : ℕ) → of (parts (of a) + parts (of b)) ≡ of (a + b)) (a : ℕ → ℕ) (c y : ℕ) where
-  one-code : (t : Bool) (k : ℕ) → if_then_else t (of (parts (of (a k)) + parts (of y))) (of (a k)) ≡ of (a k + if_then_else t y 0)
-  unfolding if_then_else
-  one-code true k = adds (a k) y
-  one-code false k = ap of (omega arith)
+-- nothing
+zeros : (n i : ℕ) → _≡_ {A = ℕ} (getD (replicate n 0) i 0) 0
+zeros zero i = refl
+zeros (suc n) zero = refl
+zeros (suc n) (suc i) = zeros n i
 
-  added-to : (ks : List ℕ)
-      → moreFor (λ (x : S). of (parts x + parts (of y))) c ks (map (λ (k : ℕ). of (a k)) ks) ≡ map (λ (k : ℕ). of (a k + if_then_else (eqb c k) y 0)) ks
-  unfolding moreFor
-  added-to [] = refl
-  added-to (k ∷ ks) = λ i. one-code (eqb c k) k i ∷ added-to ks i
+pub no-sums : Sums (λ (q c : ℕ). 0) noNumbers
+unfolding mixedOf
+no-sums = record { room = refl; sums-are = λ q p h k. (λ t. record { whole = zeros numberCount (2 * sumPlace q p + 1) t; part = zeros numberCount (2 * sumPlace q p) t }) }
 
-annual-adds : (a b : ℕ) → annualOf (annualParts (annualOf a) + annualParts (annualOf b)) ≡ annualOf (a + b)
-annual-adds a b = ap (λ (m : Mixed). record { 0 = m }) (mixed-plus annualDenominator (lit< tt) a b)
+-- what a choice by length and place comes to
+chosen : (P : List ℕ → Type 0) (l m : List ℕ) (p : ℕ) → length l ≡ numberCount → (p < codeCount → P m) → (codeCount ≤ p → P l)
+    → P (if_then_else (eqb (length l) numberCount) (if_then_else (ltb p codeCount) m l) l)
+chosen P l m p w a b = subst P (yes _ _ _ _ (eq-eqb _ _ w) refl) (cases P (ltb p codeCount) (λ t. a (ltb-true p codeCount t)) (λ t. b (ltb-false p codeCount t)))
 
-peak-adds : (a b : ℕ) → peakOf (peakParts (peakOf a) + peakParts (peakOf b)) ≡ peakOf (a + b)
-peak-adds a b = ap (λ (m : Mixed). record { 0 = m }) (mixed-plus peakDenominator (lit< tt) a b)
+module _ (f : ℕ → ℕ → ℕ) (l : List ℕ) (s : Sums f l) (x : Contribution) where
+  abbrev place : ℕ
+  place = placeOf codes (x .code)
 
-pub plus-emitted : (a p : ℕ → ℕ) (x : Contribution) → plusEmission (totalsOf a p) (emitted x) ≡ totalsOf (λ (c : ℕ). a c + annualTo c x) (λ (c : ℕ). p c + peakTo c x)
-unfolding plusEmission partsTo
-plus-emitted a p x =
-    let u = added-to annualOf annualParts annual-adds a (x .code) (partsOf tonneParts (x .tonnes)) codes in
-    let v = added-to peakOf peakParts peak-adds p (x .code) (partsOf gramParts (x .rate)) codes in
-    λ i. record { annual = u i; peak = v i }
+  abbrev year : ℕ
+  year = partsOf tonneParts (x .tonnes)
 
--- the six emissions of a group
-module _ (a p : ℕ → ℕ) (x : ℕ → Contribution) where
-  abbrev six : List Emission
-  six = listTo 6 (λ (i : ℕ). emitted (x i))
+  abbrev peak : ℕ
+  peak = partsOf gramParts (x .rate)
 
-  -- with the first n of them
-  abbrev annualUp : ℕ → ℕ → ℕ
-  annualUp n c = a c + sumTo n (λ (i : ℕ). annualTo c (x i))
+  abbrev first : List ℕ
+  first = plusAt l (sumPlace 0 place) (unitsIn (wordsOf year))
 
-  abbrev peakUp : ℕ → ℕ → ℕ
-  peakUp n c = p c + sumTo n (λ (i : ℕ). peakTo c (x i))
+  abbrev both : List ℕ
+  both = plusBoth l place (emitted x)
 
-  plus-to : (n : ℕ) → n ≤ 6 → plusTo (totalsOf a p) six n ≡ totalsOf (annualUp n) (peakUp n)
-  unfolding plusTo sumTo
-  plus-to zero h = same-totals a (annualUp 0) p (peakUp 0) (omega arith) (omega arith)
-  plus-to (suc n) h =
-      ap (λ (t : Totals). plusEmission t (getD six n noEmission)) (plus-to n (omega arith))
-      ∙ ap (plusEmission (totalsOf (annualUp n) (peakUp n))) (listTo-at noEmission 6 (λ (i : ℕ). emitted (x i)) n h)
-      ∙ plus-emitted (annualUp n) (peakUp n) (x n)
-      ∙ same-totals (λ (c : ℕ). annualUp n c + annualTo c (x n)) (annualUp (suc n)) (λ (c : ℕ). peakUp n c + peakTo c (x n)) (peakUp (suc n))
-      (omega arith) (omega arith)
+  first-length : length first ≡ numberCount
+  first-length = plus-length l (sumPlace 0 place) (unitsIn (wordsOf year)) ∙ s .room
 
-  pub plus-six : plusTo (totalsOf a p) six 6 ≡ totalsOf (λ (c : ℕ). a c + total (annualTo c) (listTo 6 x)) (λ (c : ℕ). p c + total (peakTo c) (listTo 6 x))
-  unfolding sumTo listTo
-  plus-six =
-      plus-to 6 (omega arith)
-      ∙ same-totals (annualUp 6) (λ (c : ℕ). a c + total (annualTo c) (listTo 6 x)) (peakUp 6) (λ (c : ℕ). p c + total (peakTo c) (listTo 6 x))
-      (omega arith) (omega arith)
+  both-length : length both ≡ numberCount
+  both-length = plus-length first (sumPlace 1 place) (unitsIn (wordsOf peak)) ∙ first-length
+
+  placed : place < codeCount → (q : ℕ) → q < columnCount → Column (λ (k : ℕ). f q k + column q k x) both q
+  unfolding column partsTo
+  placed h zero k =
+      column-kept (λ (k : ℕ). f 0 k + if_then_else (eqb (x .code) k) year 0) first 1 0 place (unitsIn (wordsOf peak)) (λ e. omega (arith, e)) h
+      (column-more (f 0) l 0 (x .code) year (s .room) k h (λ p. s .sums-are 0 p k))
+  placed h (suc zero) k =
+      column-more (f 1) first 1 (x .code) peak first-length k h (column-kept (f 1) l 0 1 place (unitsIn (wordsOf year)) (λ e. omega (arith, e)) h (λ p. s .sums-are 1 p k))
+  placed h (suc (suc q)) k = absurd (omega arith)
+
+  not-there : codeCount ≤ place → (q : ℕ) → q < columnCount → Column (λ (k : ℕ). f q k + column q k x) l q
+  unfolding column partsTo
+  not-there n zero k = not-placed (f 0) l 0 (x .code) year n (λ p. s .sums-are 0 p k)
+  not-there n (suc q) k = not-placed (f (suc q)) l (suc q) (x .code) peak n (λ p. s .sums-are (suc q) p k)
+
+  pub plus-emitted : Sums (λ (q k : ℕ). f q k + column q k x) (plusIn l (emitted x))
+  unfolding plusIn
+  plus-emitted =
+      chosen (Sums (λ (q k : ℕ). f q k + column q k x)) l both place (s .room)
+      (λ h. record { room = both-length; sums-are = λ q p k b. placed h q k p b })
+      (λ n. record { room = s .room; sums-are = λ q p k b. not-there n q k p b })
+
+-- a total of what a list has at each place
+pub total-listTo : {A : Type 0} (h : A → ℕ) (n : ℕ) (x : ℕ → A) → total h (listTo n x) ≡ sumTo n (λ (i : ℕ). h (x i))
+unfolding listTo sumTo
+total-listTo h zero x = refl
+total-listTo h (suc n) x = omega (arith, total-listTo h n (λ (i : ℕ). x (suc i)), sumTo-front n (λ (i : ℕ). h (x i)))
+
+-- the emissions of a list of contributions, one after the other
+module _ (f : ℕ → ℕ → ℕ) (l : List ℕ) (s : Sums f l) (x : ℕ → Contribution) (n : ℕ) where
+  abbrev emissions : List Emission
+  emissions = listTo n (λ (i : ℕ). emitted (x i))
+
+  -- with the first m of them
+  abbrev up : ℕ → ℕ → ℕ → ℕ
+  up m q k = f q k + sumTo m (λ (i : ℕ). column q k (x i))
+
+  plus-to : (m : ℕ) → m ≤ n → Sums (up m) (plusToIn l emissions m)
+  unfolding plusToIn sumTo
+  plus-to zero h = same-sums f (up 0) l (λ q k. omega arith) s
+  plus-to (suc m) h =
+      subst (λ (e : Emission). Sums (up (suc m)) (plusIn (plusToIn l emissions m) e)) (sym (listTo-at noEmission n (λ (i : ℕ). emitted (x i)) m h))
+      (same-sums (λ (q k : ℕ). up m q k + column q k (x m)) (up (suc m)) (plusIn (plusToIn l emissions m) (emitted (x m))) (λ q k. omega arith)
+      (plus-emitted (up m) (plusToIn l emissions m) (plus-to m (omega (arith, h))) (x m)))
+
+  pub plus-all : Sums (λ (q k : ℕ). f q k + total (column q k) (listTo n x)) (plusToIn l emissions n)
+  plus-all =
+      same-sums (up n) (λ (q k : ℕ). f q k + total (column q k) (listTo n x)) (plusToIn l emissions n) (λ q k. omega (arith, total-listTo (column q k) n x)) (plus-to n (le-refl n))

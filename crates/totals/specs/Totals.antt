@@ -1,79 +1,82 @@
--- 01, "Figures": the exact sums of the listing's codes, and how forty numbers hold them. "The exact sum of a code, annual or peak, adds ... what the rules above give
--- that code from each source"; that a file's sums are those of slot_file's Figures is proved where a file is walked (`FileFigures` in walk).
-use Prim.Native.Nat.{ℕ, zero, suc, _+_, _%_, _^_}
-use mathlib.Core.List.{List, [], _∷_, _++_, map}
-use lib.Dec.{eqb}
+-- 01, "Figures": the exact sums of the listing's codes in lent memory. "The exact sum of a code, annual or peak, adds ... what the rules above give that code from
+-- each source"; that a file's sums are those of slot_file's Figures is proved where a file is walked (`FileFigures` in walk).
+use Prim.Native.Nat.{ℕ, zero, suc, _+_, _*_, _%_, _^_, _<_}
+use mathlib.Core.Path.{_≡_}
+use mathlib.Core.List.{List}
+use lib.Dec.{ltb, eqb}
 use lib.ListN.{getD, set, length, replicate}
 use Rattle.sums.specs.Choice.{if_then_else, listTo}
-use Rattle.sums.specs.Figures.{annualOf, annualParts, annualFigure, peakOf, peakParts, peakFigure}
-use Rattle.sums.specs.Answer.{noEmission}
+use Rattle.sums.specs.Figures.{unitsIn, wordsOf, annualFigure, peakFigure}
+use Rattle.sums.specs.Answer.{Contribution, noEmission}
 use Rattle.sums.specs.declared.mixed.Mixed.{Mixed}
-use Rattle.sums.specs.declared.annual.AnnualSum.{AnnualSum}
-use Rattle.sums.specs.declared.peak.PeakSum.{PeakSum}
 use Rattle.sums.specs.declared.answer.Emission.{Emission}
-use Rattle.slot_file.specs.Codes.{codes}
+use Rattle.slot_file.specs.Codes.{codes, codeCount, placeOf}
+use Rattle.slot_file.specs.Parts.{annualTo, peakTo}
 use Rattle.totals.specs.declared.Figures.{Figures}
 
--- the sums of the listing's codes, in its order
-pub record Totals : Type 0 where
-  pub annual : List AnnualSum
-  pub peak : List PeakSum
+-- The memory: column 0 has the year's masses and column 1 the peaks, each with a sum for each of the listing's codes, in its order
+abbrev pub columnCount : ℕ
+columnCount = 2
 
--- the sums of a list of codes, with more for the code c and the others as they are
-unfoldable pub moreFor : {S : Type 0} → (S → S) → ℕ → List ℕ → List S → List S
-moreFor more c [] xs = xs
-moreFor more c (k ∷ ks) [] = []
-moreFor more c (k ∷ ks) (x ∷ xs) = if_then_else (eqb c k) (more x) x ∷ moreFor more c ks xs
+abbrev pub sumCount : ℕ
+sumCount = columnCount * codeCount
 
--- an emission adds to the sums of its code; a code that the listing does not have adds to none
-unfoldable pub plusEmission : Totals → Emission → Totals
-plusEmission t e = record {
-  annual = moreFor (λ (x : AnnualSum). annualOf (annualParts x + annualParts (e .annual))) (e .code) codes (t .annual);
-  peak = moreFor (λ (x : PeakSum). peakOf (peakParts x + peakParts (e .peak))) (e .code) codes (t .peak);
-}
+-- the place among all sums of the one of the code at place p in column q
+abbrev pub sumPlace : ℕ → ℕ → ℕ
+sumPlace q p = codeCount * q + p
+
+-- a sum is two numbers, its low word and behind it its high word
+abbrev pub numberCount : ℕ
+numberCount = 2 * sumCount
+
+abbrev pub wordsAt : List ℕ → ℕ → Mixed
+wordsAt l i = record { whole = getD l (2 * i + 1) 0; part = getD l (2 * i) 0 }
+
+abbrev pub withWords : List ℕ → ℕ → Mixed → List ℕ
+withWords l i m = set (set l (2 * i) (m .part)) (2 * i + 1) (m .whole)
+
+-- x units more in the sum at place i
+unfoldable pub plusAt : List ℕ → ℕ → ℕ → List ℕ
+plusAt l i x = withWords l i (wordsOf (unitsIn (wordsAt l i) + x))
+
+-- the sums of nothing
+abbrev pub noNumbers : List ℕ
+noNumbers = replicate numberCount 0
+
+-- an emission adds to both sums of its code, at place p; a code that the listing does not have adds to none, and memory of another length stays as it is
+abbrev pub plusBoth : List ℕ → ℕ → Emission → List ℕ
+plusBoth l p e = plusAt (plusAt l (sumPlace 0 p) (unitsIn (e .annual .0))) (sumPlace 1 p) (unitsIn (e .peak .0))
+
+unfoldable pub plusIn : List ℕ → Emission → List ℕ
+plusIn l e =
+    if_then_else (eqb (length l) numberCount)
+    (if_then_else (ltb (placeOf codes (e .code)) codeCount) (plusBoth l (placeOf codes (e .code)) e) l)
+    l
 
 -- the first n of a list of emissions
-unfoldable pub plusTo : Totals → List Emission → ℕ → Totals
-plusTo t es zero = t
-plusTo t es (suc n) = plusEmission (plusTo t es n) (getD es n noEmission)
-
--- each sum's figure, of which it holds 64 bits
-unfoldable pub figuresOf : Totals → Figures
-figuresOf t = record {
-  annual = listTo 10 (λ (i : ℕ). annualFigure (getD (t .annual) i (annualOf 0)) % 2 ^ 64);
-  peak = listTo 10 (λ (i : ℕ). peakFigure (getD (t .peak) i (peakOf 0)) % 2 ^ 64);
-}
-
--- Forty numbers hold them: the whole units of the annual sums, their parts, and the same of the peak sums
-abbrev pub numbersOf : List Mixed → List ℕ
-numbersOf ms = map (λ (m : Mixed). m .whole) ms ++ map (λ (m : Mixed). m .part) ms
-
-unfoldable pub numbersIn : Totals → List ℕ
-numbersIn t = numbersOf (map (λ (x : AnnualSum). x .0) (t .annual)) ++ numbersOf (map (λ (x : PeakSum). x .0) (t .peak))
-
-abbrev pub noNumbers : List ℕ
-noNumbers = replicate 40 0
-
-abbrev pub sumAt : List ℕ → ℕ → ℕ → Mixed
-sumAt l from i = record { whole = getD l (i + from) 0; part = getD l (i + (from + 10)) 0 }
-
-unfoldable pub totalsIn : List ℕ → Totals
-totalsIn l = record { annual = listTo 10 (λ (i : ℕ). record { 0 = sumAt l 0 i }); peak = listTo 10 (λ (i : ℕ). record { 0 = sumAt l 20 i }) }
-
--- the same of forty numbers; other lists hold no sums
-unfoldable pub plusIn : List ℕ → Emission → List ℕ
-plusIn l e = if_then_else (eqb (length l) 40) (numbersIn (plusEmission (totalsIn l) e)) l
-
 unfoldable pub plusToIn : List ℕ → List Emission → ℕ → List ℕ
 plusToIn l es zero = l
 plusToIn l es (suc n) = plusIn (plusToIn l es n) (getD es n noEmission)
 
+-- the figures of the code at place p, of which each has 64 bits
+abbrev pub annualIn : List ℕ → ℕ → ℕ
+annualIn l p = annualFigure (record { 0 = wordsAt l (sumPlace 0 p) }) % 2 ^ 64
+
+abbrev pub peakIn : List ℕ → ℕ → ℕ
+peakIn l p = peakFigure (record { 0 = wordsAt l (sumPlace 1 p) }) % 2 ^ 64
+
+unfoldable pub figuresOf : List ℕ → Figures
+figuresOf l = record { annual = listTo codeCount (annualIn l); peak = listTo codeCount (peakIn l) }
+
 unfoldable pub figuresIn : List ℕ → Figures
-figuresIn l = if_then_else (eqb (length l) 40) (figuresOf (totalsIn l)) (record { annual = replicate 10 0; peak = replicate 10 0 })
+figuresIn l = if_then_else (eqb (length l) numberCount) (figuresOf l) (record { annual = replicate codeCount 0; peak = replicate codeCount 0 })
 
--- What inner functions and proofs go by: another sum at a place; and so many exact units of each code
-abbrev pub withSum : List ℕ → ℕ → ℕ → Mixed → List ℕ
-withSum l from i m = set (set l (i + from) (m .whole)) (i + (from + 10)) (m .part)
+-- What proofs go by: the exact units that a contribution gives to a code in a column
+unfoldable pub column : ℕ → ℕ → Contribution → ℕ
+column zero = annualTo
+column (suc q) = peakTo
 
-abbrev pub totalsOf : (ℕ → ℕ) → (ℕ → ℕ) → Totals
-totalsOf a p = record { annual = map (λ (c : ℕ). annualOf (a c)) codes; peak = map (λ (c : ℕ). peakOf (p c)) codes }
+-- and memory that has f q c units of the code c in column q, but for turns of 2 ^ 128
+pub record Sums (f : ℕ → ℕ → ℕ) (l : List ℕ) : Type 0 where
+  pub room : length l ≡ numberCount
+  pub sums-are : (q p : ℕ) → q < columnCount → p < codeCount → wordsAt l (sumPlace q p) ≡ wordsOf (f q (getD codes p 0))

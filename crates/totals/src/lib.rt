@@ -1,14 +1,28 @@
-// Exact sums by substance code, and their figures. The sums of a file are forty numbers in memory that the caller lends: for each of the listing's codes, in its
-// order, the annual sum's whole units, then their parts, then the same of the peak sums.
+// Exact sums by substance code in memory that the caller lends, and their figures. The memory has a column of sums for the year's masses and one for the peaks, a
+// sum for each of the listing's codes in its order, and a sum has two words, the low one first.
 ghost use mathlib.Core.Path.{_≡_};
-ghost use Prim.Native.Nat.{_+_, _<_};
+ghost use Prim.Native.Nat.{_<_};
 ghost use lib.ListN.{length};
-ghost use Rattle.totals.specs.Totals.{noNumbers, sumAt, withSum, totalsIn, plusIn, plusToIn, figuresOf, figuresIn};
+ghost use Rattle.sums.specs.Figures.{unitsIn};
+ghost use Rattle.vehicles.specs.Rules.{emissionCount};
+ghost use Rattle.slot_file.specs.Codes.{codeCount};
+ghost use Rattle.totals.specs.Totals.{columnCount, numberCount, sumPlace, noNumbers, wordsAt, plusAt, plusIn, plusToIn, figuresOf, figuresIn};
 use slot_file::COUNT;
 use sums::AnnualSum;
 use sums::Emission;
 use sums::PeakSum;
 use sums::mixed::Mixed;
+use vehicles::EMISSIONS;
+
+// The columns.
+const ANNUAL: usize = 0;
+
+const PEAK: usize = 1;
+
+const COLUMNS: usize = 2;
+
+// Two words for each sum.
+pub const NUMBERS: usize = 2 * COLUMNS * COUNT;
 
 // Millionths of a tonne, and ten-millionths of a gram per second.
 pub struct Figures {
@@ -16,74 +30,71 @@ pub struct Figures {
     pub peak: [u64; COUNT],
 }
 
-// Where the annual sums begin, and the peak sums; and how far behind their whole units the parts are.
-const ANNUAL: usize = 0;
-
-const PEAK: usize = 20;
-
-const PARTS: usize = 10;
-
-fn sum_at(totals: &[u64], from: usize, place: usize) -> Mixed
-    requires { ⌜ place + (from + 10) < length (now totals) ⌝ }
-    ensures { λ r. ⌜ r ≡ sumAt (now (totals .entry)) from place ⌝ }
+// The sum of the code at a place, in a column.
+fn sum_at(totals: &[u64], column: usize, place: usize) -> Mixed
+    requires { ⌜ (length (now totals) ≡ numberCount) × (column < columnCount) × (place < codeCount) ⌝ }
+    ensures { λ r. ⌜ r ≡ wordsAt (now (totals .entry)) (sumPlace column place) ⌝ }
 {
+    let at = 2 * (COUNT * column + place);
     Mixed {
-        whole: totals[place + from],
-        part: totals[place + (from + PARTS)],
+        whole: totals[at + 1],
+        part: totals[at],
     }
 }
 
-fn put_sums(totals: &mut [u64], place: usize, annual: Mixed, peak: Mixed)
-    requires { ⌜ (length (now totals) ≡ 40) × (place < 10) ⌝ }
-    ensures { λ _. ⌜ now (totals .exit) ≡ withSum (withSum (now (totals .entry)) 0 place annual) 20 place peak ⌝ }
+// Adds to it.
+fn add_at(totals: &mut [u64], column: usize, place: usize, x: Mixed)
+    requires { ⌜ (length (now totals) ≡ numberCount) × (column < columnCount) × (place < codeCount) ⌝ }
+    ensures { λ _. ⌜ now (totals .exit) ≡ plusAt (now (totals .entry)) (sumPlace column place) (unitsIn x) ⌝ }
 {
-    totals[place + ANNUAL] = annual.whole;
-    totals[place + (ANNUAL + PARTS)] = annual.part;
-    totals[place + PEAK] = peak.whole;
-    totals[place + (PEAK + PARTS)] = peak.part;
+    let sum = sum_at(totals, column, place).plus(x);
+    let at = 2 * (COUNT * column + place);
+    totals[at] = sum.part;
+    totals[at + 1] = sum.whole;
 }
 
 // The sums of nothing.
-pub fn none() -> [u64; 40]
+pub fn none() -> [u64; NUMBERS]
     ensures { λ r. ⌜ r ≡ noNumbers ⌝ }
 {
-    [0; 40]
+    [0; NUMBERS]
 }
 
-// Adds to the sums of the emission's code; a code that the listing does not have adds to none, and other memory than forty numbers stays as it is.
+// Adds to the sums of the emission's code; a code that the listing does not have adds to none, and memory of another length stays as it is.
 pub fn add(totals: &mut [u64], e: Emission)
     ensures { λ _. ⌜ now (totals .exit) ≡ plusIn (now (totals .entry)) e ⌝ }
 {
-    if totals.len() != 40 {
+    if totals.len() != NUMBERS {
         return;
     }
     let p = slot_file::place_of(e.code);
-    if p < 10 {
-        let annual = AnnualSum(sum_at(totals, ANNUAL, p)).plus(e.annual);
-        let peak = PeakSum(sum_at(totals, PEAK, p)).plus(e.peak);
-        put_sums(totals, p, annual.0, peak.0);
+    if p < COUNT {
+        let annual = e.annual;
+        let peak = e.peak;
+        add_at(totals, ANNUAL, p, annual.0);
+        add_at(totals, PEAK, p, peak.0);
     }
 }
 
-// The six emissions of a group.
-pub fn add_all(totals: &mut [u64], emissions: [Emission; 6])
-    ensures { λ _. ⌜ now (totals .exit) ≡ plusToIn (now (totals .entry)) emissions 6 ⌝ }
+// The emissions of a group.
+pub fn add_all(totals: &mut [u64], emissions: [Emission; EMISSIONS])
+    ensures { λ _. ⌜ now (totals .exit) ≡ plusToIn (now (totals .entry)) emissions emissionCount ⌝ }
 {
     let mut i = 0;
-    while i < 6 {
+    while i < EMISSIONS {
         add(totals, emissions[i]);
         i += 1;
     }
 }
 
 fn figures_of(totals: &[u64]) -> Figures
-    requires { ⌜ length (now totals) ≡ 40 ⌝ }
-    ensures { λ r. ⌜ r ≡ figuresOf (totalsIn (now (totals .entry))) ⌝ }
+    requires { ⌜ length (now totals) ≡ numberCount ⌝ }
+    ensures { λ r. ⌜ r ≡ figuresOf (now (totals .entry)) ⌝ }
 {
-    let mut annual = [0; 10];
-    let mut peak = [0; 10];
+    let mut annual = [0; COUNT];
+    let mut peak = [0; COUNT];
     let mut i = 0;
-    while i < 10 {
+    while i < COUNT {
         annual[i] = AnnualSum(sum_at(totals, ANNUAL, i)).rounded();
         peak[i] = PeakSum(sum_at(totals, PEAK, i)).rounded();
         i += 1;
@@ -91,16 +102,16 @@ fn figures_of(totals: &[u64]) -> Figures
     Figures { annual, peak }
 }
 
-// Each sum, rounded; of other memory than forty numbers, nothing.
+// Each sum, rounded; of memory of another length, nothing.
 pub fn rounded(totals: &[u64]) -> Figures
     ensures { λ r. ⌜ r ≡ figuresIn (now (totals .entry)) ⌝ }
 {
-    if totals.len() == 40 {
+    if totals.len() == NUMBERS {
         figures_of(totals)
     } else {
         Figures {
-            annual: [0; 10],
-            peak: [0; 10],
+            annual: [0; COUNT],
+            peak: [0; COUNT],
         }
     }
 }

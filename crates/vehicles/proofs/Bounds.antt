@@ -6,6 +6,7 @@ use native.Mathlib.Omega.{arith}
 use mathlib.Core.Path.{_≡_}
 use mathlib.Core.Bool.{true, false}
 use mathlib.Core.List.{List}
+use lib.Dec.{lit<}
 use lib.IntN.{ℤ}
 use lib.ListN.{getD}
 use Rattle.sums.specs.Choice.{if_then_else}
@@ -45,7 +46,7 @@ module _ (g : Group) (k : Coefficients) (c : ℕ) (hg : groupInRange g ≡ true)
   year-most a h = mass-most (ranged g hg .neutraliser) hc (warmup-parts k a hk h) (run-parts k a hk h) (idle-parts k a hk h)
 
 module _ (g : Group) (ts : List ℤ) (k : Coefficients) (hg : groupInRange g ≡ true) (hk : coefficientsInRange k ≡ true) (p : ℕ) where
-  pub group-bounded : Bounded (annualTonnes g ts k (controlOf g p)) (peakGrams g k (controlOf g p) (lowestOf ts))
+  pub group-bounded : Bounded emissionCount (annualTonnes g ts k (controlOf g p)) (peakGrams g k (controlOf g p) (lowestOf ts))
   group-bounded =
       let c = partsOf 100 (controlOf g p) in
       let r = ranged g hg in
@@ -53,11 +54,11 @@ module _ (g : Group) (ts : List ℤ) (k : Coefficients) (hg : groupInRange g ≡
       year-most g k c hg hk (control g p .most) (activityOf g ts) (activity-in-range g hg ts) ⊗ r .share ⊗ r .vehicles in
       let b : outParts g k c (conditionsAt g (lowestOf ts)) * g .leaving ≤ 150000000000000000 =
       out-most g k c hg hk (control g p .most) (conditionsAt g (lowestOf ts)) (conditions-in-range g (lowestOf ts)) ⊗ r .leaving in
-      bounded (counted g ts k p) (omega arith) (omega arith)
+      bounded emissionCount (counted g ts k p) (omega arith) (omega arith)
 
   emission-exactly : Exactly (emissionOf g ts k p) (annualTonnes g ts k (controlOf g p)) (peakGrams g k (controlOf g p) (lowestOf ts))
   unfolding emissionOf
-  emission-exactly = exactly (contributionOf g ts k p) (counted g ts k p) group-bounded
+  emission-exactly = exactly (contributionOf g ts k p) (lit< tt) (counted g ts k p) group-bounded
 
 -- each emission of a group that is not refused
 pub group-exactly : (g : Group) (ts : List ℤ) (ks : List Coefficients) → inRange g ts ks ≡ true → notZero g ks ≡ false → (p : ℕ) → p < emissionCount →

@@ -16,7 +16,7 @@ use Rattle.sums.proofs.Fractions.{≈-refl, ≈-⊙, ≈-⊞, ≈-per, ≈-over
 use Rattle.sums.proofs.Sources.{Counted}
 use Rattle.vehicles.specs.Fields.{noMinute, noKilometre}
 use Rattle.vehicles.specs.Rules.{periodAt, minutesAt, runAndIdle, outGrams, inGrams, monthGrams, annualTonnes, peakGrams, controlOf, lowestOf, emissionOf}
-use Rattle.vehicles.specs.Parts.{conditionsAt, distanceSum, monthConditions, monthPeriod, monthWarmup, monthRun, monthIdle, activityOf, runAndIdleParts, massParts, outParts, yearParts, emissionParts}
+use Rattle.vehicles.specs.Parts.{conditionsAt, distanceSum, monthConditions, monthPeriod, monthWarmup, monthRun, monthIdle, activityOf, runAndIdleParts, massParts, outParts, yearParts, yearUnits, peakUnits, emissionParts}
 use Rattle.vehicles.specs.declared.group.Distances.{Distances}
 use Rattle.vehicles.specs.declared.group.Neutraliser.{Neutraliser}
 use Rattle.vehicles.specs.declared.group.Group.{Group}
@@ -101,27 +101,27 @@ module _ (g : Group) (k : Coefficients) (y : Frac) (c : ℕ) (same : y ≈ (c ov
       (≈-⊙ (≈-⊙ (≈-⊞ (out t) (run-and-idle (periodAt g t) (g .inward))) (≈-refl (g .share) 100 (lit< tt))) (≈-refl (g .vehicles) 1 (lit< tt)))
       (≈-refl days 1 (lit< tt)))
 
-  year : (ts : List ℤ) → annualTonnes g ts k y ≈ ((yearParts g k c (activityOf g ts) * g .share * g .vehicles * 100) over tonneParts)
+  year : (ts : List ℤ) → annualTonnes g ts k y ≈ ((yearParts g k c (activityOf g ts) * g .share * (g .vehicles * yearUnits)) over tonneParts)
   unfolding annualTonnes
   year ts =
-      ≈-over (yearParts g k c (activityOf g ts) * g .share * g .vehicles * 100) tonneParts (lit< tt) (omega arith)
+      ≈-over (yearParts g k c (activityOf g ts) * g .share * (g .vehicles * yearUnits)) tonneParts (lit< tt) (omega arith)
       (≈-per 1000000 (lit< tt)
       (rw (sumTo-times (g .share * g .vehicles) (monthParts g ts k c) 12, ← year-by-days g ts k c)
       at (totalTo-parts (λ (m : ℕ). monthGrams g k y (periodAt g (getD ts m (pos 0))) (minutesAt g (getD ts m (pos 0))) (getD (g .days) m 0))
       (λ (m : ℕ). monthParts g ts k c m * (g .share * g .vehicles)) 200000000000 (lit< tt) 12
       (λ (m : ℕ) (p : m < 12). month (getD ts m (pos 0)) (getD (g .days) m 0)))))
 
-  peak : (t : ℤ) → peakGrams g k y t ≈ ((outParts g k c (conditionsAt g t) * g .leaving * 500) over gramParts)
+  peak : (t : ℤ) → peakGrams g k y t ≈ ((outParts g k c (conditionsAt g t) * g .leaving * peakUnits) over gramParts)
   unfolding peakGrams
   peak t =
-      ≈-over (outParts g k c (conditionsAt g t) * g .leaving * 500) gramParts (lit< tt) (omega arith)
+      ≈-over (outParts g k c (conditionsAt g t) * g .leaving * peakUnits) gramParts (lit< tt) (omega arith)
       (≈-per 3600 (lit< tt) (≈-⊙ (out t) (≈-refl (g .leaving) 1 (lit< tt))))
 
 -- a pollutant's tonnes and rate, in exact units
 pub counted : (g : Group) (ts : List ℤ) (k : Coefficients) (p : ℕ) →
     Counted (annualTonnes g ts k (controlOf g p)) (peakGrams g k (controlOf g p) (lowestOf ts))
-    (yearParts g k (partsOf 100 (controlOf g p)) (activityOf g ts) * g .share * g .vehicles * 100)
-    (outParts g k (partsOf 100 (controlOf g p)) (conditionsAt g (lowestOf ts)) * g .leaving * 500)
+    (yearParts g k (partsOf 100 (controlOf g p)) (activityOf g ts) * g .share * (g .vehicles * yearUnits))
+    (outParts g k (partsOf 100 (controlOf g p)) (conditionsAt g (lowestOf ts)) * g .leaving * peakUnits)
 counted g ts k p =
     let y = controlOf g p in
     let same = control g p .same in

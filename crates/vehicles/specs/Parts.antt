@@ -1,12 +1,12 @@
 -- What inner functions compute: the rule's fractions as whole numbers of parts. The proofs show that they are the fractions of Rules.
-use Prim.Native.Nat.{ℕ, _+_, _*_, _<_, _≤_}
+use Prim.Native.Nat.{ℕ, _+_, _*_, _/_, _<_, _≤_}
 use mathlib.Core.List.{List}
 use lib.Dec.{eqb}
 use lib.IntN.{ℤ, pos}
 use lib.ListN.{getD}
 use Rattle.sums.specs.Choice.{if_then_else, sumTo, listTo}
 use Rattle.sums.specs.Fraction.{partsOf}
-use Rattle.sums.specs.Figures.{annualOf, peakOf}
+use Rattle.sums.specs.Figures.{tonneParts, gramParts, annualOf, peakOf}
 use Rattle.sums.specs.declared.answer.Emission.{Emission}
 use Rattle.vehicles.specs.Fields.{noMinute, noKilometre}
 use Rattle.vehicles.specs.Rules.{minutesAt, periodAt, controlOf, codeOf}
@@ -91,12 +91,19 @@ runParts k a = sumTo 3 (λ (p : ℕ). getD (k .run) p noKilometre .0 * getD (a .
 unfoldable pub yearParts : Group → Coefficients → ℕ → Activity → ℕ
 yearParts g k control a = massParts (g .neutraliser) control (warmupParts k a) (runParts k a) (k .idle .0 * a .idle .0)
 
--- one pollutant's emission, in exact units
+-- exact units in a 200,000,000,000,000,000th of a tonne, and in a 7,200,000,000,000th of a gram per second
+abbrev pub yearUnits : ℕ
+yearUnits = tonneParts / 200000000000000000
+
+abbrev pub peakUnits : ℕ
+peakUnits = gramParts / 7200000000000
+
+-- one pollutant's emission, in exact units: a year in 2,000,000,000ths of a gram times a percentage, and a trip out in as many over 3,600 seconds
 unfoldable pub emissionParts : Group → Coefficients → ℕ → Activity → Conditions → Emission
 emissionParts g k p a coldest = record {
   code = codeOf (g .fuel) p;
-  annual = annualOf (yearParts g k (partsOf 100 (controlOf g p)) a * g .share * g .vehicles * 100);
-  peak = peakOf (outParts g k (partsOf 100 (controlOf g p)) coldest * g .leaving * 500);
+  annual = annualOf (yearParts g k (partsOf 100 (controlOf g p)) a * g .share * (g .vehicles * yearUnits));
+  peak = peakOf (outParts g k (partsOf 100 (controlOf g p)) coldest * g .leaving * peakUnits);
 }
 
 -- how large they are at most: a year's minutes and metres over all three periods

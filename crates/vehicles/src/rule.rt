@@ -5,7 +5,7 @@ ghost use Prim.Native.Nat.{_*_, _<_, _≤_};
 ghost use Rattle.sums.specs.Figures.{annualOf, peakOf};
 ghost use Rattle.vehicles.specs.Fields.{pollutantCount, groupInRange, coefficientsInRange, allInRange};
 ghost use Rattle.vehicles.specs.Rules.{codeOf, emissionsOf, inRange, notZero, refused, groupAnswer};
-ghost use Rattle.vehicles.specs.Parts.{ConditionsInRange, ActivityInRange, yearParts, emissionParts};
+ghost use Rattle.vehicles.specs.Parts.{ConditionsInRange, ActivityInRange, yearUnits, peakUnits, yearParts, emissionParts};
 use super::activity;
 use super::activity::Activity;
 use super::control;
@@ -48,21 +48,25 @@ fn year_of(g: Group, k: Coefficients, control: u64, a: Activity) -> u64
     )
 }
 
-// 2,000,000,000ths of a gram times a percentage are 200,000,000,000,000,000ths of a tonne, 100 exact units each: 20 times fit 64 bits before the sum,
-// and 5 times the vehicles fit the 16 of its multiple.
+// Exact units in a 200,000,000,000,000,000th of a tonne, and in a 7,200,000,000,000th of a gram per second: 100 and 100.
+const YEAR_UNITS: u32 = (AnnualSum::DENOMINATOR / 200_000_000_000) as u32;
+
+const PEAK_UNITS: u64 = PeakSum::DENOMINATOR / 720_000;
+
+// 2,000,000,000ths of a gram times a percentage are 200,000,000,000,000,000ths of a tonne.
 fn annual_of(g: Group, year: u64) -> AnnualSum
     requires { ⌜ (groupInRange g ≡ true) × (year ≤ 8928000000000000) ⌝ }
-    ensures { λ r. ⌜ r ≡ annualOf (year * g .share * g .vehicles * 100) ⌝ }
+    ensures { λ r. ⌜ r ≡ annualOf (year * g .share * (g .vehicles * yearUnits)) ⌝ }
 {
-    AnnualSum::of(year * units::wide8(g.share) * 20).times(5 * g.vehicles)
+    AnnualSum::of(year * units::wide8(g.share)).times(g.vehicles as u32 * YEAR_UNITS)
 }
 
-// 2,000,000,000ths of a gram over 3,600 seconds are 7,200,000,000,000ths of a gram per second, 500 exact units each.
+// 2,000,000,000ths of a gram over 3,600 seconds are 7,200,000,000,000ths of a gram per second. The product fits 64 bits, so a peak is one word.
 fn peak_of(g: Group, out: u64) -> PeakSum
     requires { ⌜ (groupInRange g ≡ true) × (out ≤ 15000000000000) ⌝ }
-    ensures { λ r. ⌜ r ≡ peakOf (out * g .leaving * 500) ⌝ }
+    ensures { λ r. ⌜ r ≡ peakOf (out * g .leaving * peakUnits) ⌝ }
 {
-    PeakSum::of(out * units::wide16(g.leaving)).times(500)
+    PeakSum::of(out * units::wide16(g.leaving) * PEAK_UNITS)
 }
 
 const PETROL_CODES: [u16; POLLUTANTS] = [337, 2704, 301, 328, 330, 184];

@@ -1,19 +1,19 @@
 -- One source more: a link that nothing is refused of lengthens the chain, and its emissions make the sums those of the sources passed. Assumes nothing.
 use Prim.Native.Nat.{ℕ, zero, suc, _+_, _<_}
 use native.Mathlib.Omega.{arith}
-use mathlib.Core.Path.{_≡_, refl, ap, subst, _∙_}
+use mathlib.Core.Path.{_≡_, refl, sym, ap, subst, _∙_}
 use mathlib.Core.Bool.{Bool, true, false}
 use mathlib.Core.List.{List, [], _∷_, _++_}
 use lib.ListN.{getD, length, set, length-append}
 use Rattle.sums.specs.Choice.{if_then_else, listTo}
-use Rattle.sums.specs.Figures.{mixedOf}
 use Rattle.sums.specs.Answer.{Contribution, emitted}
 use Rattle.sums.specs.declared.answer.Verdict.{Verdict}
+use Rattle.sums.specs.declared.answer.Emission.{Emission}
 use Rattle.stores.specs.Rules.{handlingContribution, standingContribution, aspirationContribution}
 use Rattle.stores.proofs.Exactly.{handling-emitted, standing-emitted, aspiration-emitted}
 use Rattle.vehicles.specs.Fields.{pollutantCount, noCoefficients}
 use Rattle.vehicles.specs.declared.rule.GroupAnswer.{GroupAnswer}
-use Rattle.vehicles.specs.Rules.{contributionOf, emissionOf, emissionsOf, groupAnswer}
+use Rattle.vehicles.specs.Rules.{emissionCount, contributionOf, emissionOf, emissionsOf, groupAnswer}
 use Rattle.slots.specs.Bytes.{slotOf}
 use Rattle.slots.specs.Layout.{readStore}
 use Rattle.slots.specs.declared.store.Store.{Store}
@@ -26,45 +26,37 @@ use Rattle.slot_file.specs.Figures.{groupContributions, storeContributions}
 use Rattle.slot_file.specs.Alike.{total}
 use Rattle.slot_file.proofs.Marks.{different-short}
 use Rattle.slot_file.proofs.Verdicts.{sized, groups-differ, stores-differ}
-use Rattle.slot_file.specs.Parts.{marksOf, annualTo, peakTo}
+use Rattle.slot_file.specs.Parts.{marksOf}
 use Rattle.slot_file.specs.declared.Counts.{Counts}
-use Rattle.totals.specs.Totals.{totalsOf, noNumbers, totalsIn, plusEmission, plusTo}
-use Rattle.totals.proofs.Forty.{plus-held, plus-to-held}
-use Rattle.totals.proofs.Sums.{same-totals, plus-emitted, plus-six}
+use Rattle.totals.specs.Totals.{plusIn, plusToIn, column, Sums}
+use Rattle.totals.proofs.Adding.{plus-room, plus-to-room}
+use Rattle.totals.proofs.Sums.{same-sums, plus-emitted, plus-all}
 use Rattle.walk.specs.Rows.{marksTo}
 use Rattle.walk.specs.Steps.{GroupStepped, StoreStepped}
-use Rattle.walk.specs.Walked.{unitsOf, sumsOf, Holds, plusGroup, GroupsPassed, GroupsEnded, recordEmission, storeEmission, plusStore, StoresPassed, StoresEnded}
+use Rattle.walk.specs.Walked.{sumsOf, plusGroup, GroupsPassed, GroupsEnded, recordEmission, storeEmission, plusStore, StoresPassed, StoresEnded}
 use Rattle.walk.specs.declared.groups.GroupStep.{GroupStep}
 use Rattle.walk.specs.declared.records.StoreStep.{StoreStep}
 use Rattle.walk.proofs.Ranged.{group-answered, storeInRange, store-answered}
 
--- nothing is summed yet
-pub no-sums : (s : List ℕ) → totalsIn noNumbers ≡ sumsOf s (groupsSoFar [])
-unfolding listTo totalsIn mixedOf
-no-sums s = refl
-
--- the numbers stay forty
-group-room : (summing : Bool) (l : List ℕ) (a : GroupAnswer) → length l ≡ 40 → length (plusGroup summing l a) ≡ 40
+-- adding keeps the room
+group-room : (summing : Bool) (l : List ℕ) (a : GroupAnswer) → length (plusGroup summing l a) ≡ length l
 unfolding plusGroup if_then_else
-group-room true l a h = plus-to-held l (a .emissions) h 6 .0
-group-room false l a h = h
+group-room true l a = plus-to-room l (a .emissions) emissionCount
+group-room false l a = refl
 
-store-room : (summing : Bool) (l : List ℕ) (r : StoreRead) → length l ≡ 40 → length (plusStore summing l r) ≡ 40
+store-room : (summing : Bool) (l : List ℕ) (r : StoreRead) → length (plusStore summing l r) ≡ length l
 unfolding plusStore if_then_else
-store-room true l r h = plus-held l (storeEmission r) h .0
-store-room false l r h = h
+store-room true l r = plus-room l (storeEmission r)
+store-room false l r = refl
 
 module _ (s : List ℕ) where
-  group-summed : (gs : List ℕ) (g : ℕ)
-      → plusTo (sumsOf s (groupsSoFar gs)) (emissionsOf (groupAt s g .group) (temperaturesAt s) (groupAt s g .coefficients)) 6 ≡ sumsOf s (groupsSoFar (g ∷ gs))
+  group-summed : (gs : List ℕ) (g : ℕ) (l : List ℕ) → Sums (sumsOf s (groupsSoFar gs)) l
+      → Sums (sumsOf s (groupsSoFar (g ∷ gs))) (plusToIn l (emissionsOf (groupAt s g .group) (temperaturesAt s) (groupAt s g .coefficients)) emissionCount)
   unfolding emissionsOf emissionOf groupContributions
-  group-summed gs g =
+  group-summed gs g l h =
       let x : ℕ → Contribution = λ (p : ℕ). contributionOf (groupAt s g .group) (temperaturesAt s) (getD (groupAt s g .coefficients) p noCoefficients) p in
-      let a : ℕ → ℕ = λ (c : ℕ). unitsOf (annualTo c) s (groupsSoFar gs) in
-      let p : ℕ → ℕ = λ (c : ℕ). unitsOf (peakTo c) s (groupsSoFar gs) in
-      plus-six a p x
-      ∙ same-totals (λ (c : ℕ). a c + total (annualTo c) (listTo 6 x)) (λ (c : ℕ). unitsOf (annualTo c) s (groupsSoFar (g ∷ gs)))
-      (λ (c : ℕ). p c + total (peakTo c) (listTo 6 x)) (λ (c : ℕ). unitsOf (peakTo c) s (groupsSoFar (g ∷ gs))) (omega arith) (omega arith)
+      let b = sumsOf s (groupsSoFar gs) in
+      same-sums (λ (q k : ℕ). b q k + total (column q k) (listTo emissionCount x)) (sumsOf s (groupsSoFar (g ∷ gs))) _ (λ q k. omega arith) (plus-all b l h x emissionCount)
 
   slots-marked : (b : List ℕ) (g n : ℕ) → marksTo s g (set (marksOf b) g true) n ≡ marksOf (coefficientSlots s g n ++ g ∷ b)
   unfolding marksTo coefficientSlots
@@ -103,45 +95,39 @@ module _ (s : List ℕ) where
             counts-are = λ i. record { groups = n i; stores = h′ .counts-are i .stores };
             sources-are = q .source-marked ∙ ap (λ (l : List Bool). set l g true) (h′ .sources-are);
             reached-are = q .slots-marked ∙ ap (λ (l : List Bool). marksTo s g (set l g true) pollutantCount) (h′ .reached-are) ∙ group-marked (p .gs) g;
-            room = ap length d ∙ group-room summing totals (groupAnswer (r .group) (temperaturesAt s) (r .coefficients)) (h′ .room);
+            room = ap length d ∙ group-room summing totals (groupAnswer (r .group) (temperaturesAt s) (r .coefficients)) ∙ h′ .room;
             sums-are = λ e.
-                ap totalsIn d ∙ simp e
-                (plus-to-held totals (groupAnswer (r .group) (temperaturesAt s) (r .coefficients) .emissions) (h′ .room) 6 .1
-                ∙ (λ i. plusTo (h′ .sums-are e i) (groupAnswer (q .group i) (temperaturesAt s) (q .coefficients i) .emissions) 6)
-                ∙ ap (λ l. plusTo (sumsOf s (groupsSoFar (p .gs))) l 6) (group-answered s (groupsSoFar (p .gs)) g a h)
-                ∙ group-summed (p .gs) g);
+                subst (Sums (sumsOf s (groupsSoFar (g ∷ p .gs))))
+                (sym (d ∙ ap (λ (b : Bool). plusGroup b totals (groupAnswer (r .group) (temperaturesAt s) (r .coefficients))) e
+                ∙ (λ i. plusToIn totals (groupAnswer (q .group i) (temperaturesAt s) (q .coefficients i) .emissions) emissionCount)
+                ∙ ap (λ l. plusToIn totals l emissionCount) (group-answered s (groupsSoFar (p .gs)) g a h)))
+                (group-summed (p .gs) g totals (h′ .sums-are e));
           };
         }
 
--- one contribution more
-one-summed : (a p : ℕ → ℕ) (x : Contribution)
-    → plusEmission (totalsOf a p) (emitted x) ≡ totalsOf (λ (c : ℕ). a c + total (annualTo c) (x ∷ [])) (λ (c : ℕ). p c + total (peakTo c) (x ∷ []))
-one-summed a p x =
-    plus-emitted a p x
-    ∙ same-totals (λ (c : ℕ). a c + annualTo c x) (λ (c : ℕ). a c + total (annualTo c) (x ∷ [])) (λ (c : ℕ). p c + peakTo c x) (λ (c : ℕ). p c + total (peakTo c) (x ∷ []))
-    (omega arith) (omega arith)
+-- one store record more
+module _ (f : ℕ → ℕ → ℕ) (l : List ℕ) (s : Sums f l) where
+  one-summed : (x : Contribution) {e : Emission} → e ≡ emitted x → Sums (λ (q k : ℕ). f q k + total (column q k) (x ∷ [])) (plusIn l e)
+  one-summed x d =
+      subst (λ (e : Emission). Sums (λ (q k : ℕ). f q k + total (column q k) (x ∷ [])) (plusIn l e)) (sym d)
+      (same-sums (λ (q k : ℕ). f q k + column q k x) (λ (q k : ℕ). f q k + total (column q k) (x ∷ [])) _ (λ q k. omega arith) (plus-emitted f l s x))
 
-record-summed : (a p : ℕ → ℕ) (r : Store) → storeInRange r ≡ true → plusEmission (totalsOf a p) (recordEmission r)
-    ≡ totalsOf (λ (c : ℕ). a c + total (annualTo c) (storeContributions r)) (λ (c : ℕ). p c + total (peakTo c) (storeContributions r))
-unfolding recordEmission storeContributions
-record-summed a p (Handling h) e = ap (plusEmission (totalsOf a p)) (handling-emitted h e) ∙ one-summed a p (handlingContribution h)
-record-summed a p (Standing r) e = ap (plusEmission (totalsOf a p)) (standing-emitted r e) ∙ one-summed a p (standingContribution r)
-record-summed a p (Aspiration r) e = ap (plusEmission (totalsOf a p)) (aspiration-emitted r e) ∙ one-summed a p (aspirationContribution r)
+  record-summed : (r : Store) → storeInRange r ≡ true → Sums (λ (q k : ℕ). f q k + total (column q k) (storeContributions r)) (plusIn l (recordEmission r))
+  unfolding recordEmission storeContributions
+  record-summed (Handling h) e = one-summed (handlingContribution h) (handling-emitted h e)
+  record-summed (Standing r) e = one-summed (standingContribution r) (standing-emitted r e)
+  record-summed (Aspiration r) e = one-summed (aspirationContribution r) (aspiration-emitted r e)
 
 module _ (s : List ℕ) (a : Chains) (ss : List ℕ) where
-  store-summed : (k : ℕ) → AllYes (storeAsks s (storesSoFar a ss) k)
-      → plusEmission (sumsOf s (storesSoFar a ss)) (storeEmission (readStore (slotOf s k))) ≡ sumsOf s (storesSoFar a (k ∷ ss))
+  store-summed : (k : ℕ) (l : List ℕ) → AllYes (storeAsks s (storesSoFar a ss) k) → Sums (sumsOf s (storesSoFar a ss)) l
+      → Sums (sumsOf s (storesSoFar a (k ∷ ss))) (plusIn l (storeEmission (readStore (slotOf s k))))
   unfolding storeEmission
-  store-summed k y =
-      let b = storesSoFar a ss in
-      let e = store-answered s b k y in
-      let d = storesSoFar a (k ∷ ss) in
-      let u : ℕ → ℕ = λ (c : ℕ). unitsOf (annualTo c) s b in
-      let v : ℕ → ℕ = λ (c : ℕ). unitsOf (peakTo c) s b in
-      ap (λ (r : StoreRead). plusEmission (sumsOf s b) (storeEmission r)) (e .0)
-      ∙ record-summed u v (storeAt s k) (e .1)
-      ∙ same-totals (λ (c : ℕ). u c + total (annualTo c) (storeContributions (storeAt s k))) (λ (c : ℕ). unitsOf (annualTo c) s d)
-      (λ (c : ℕ). v c + total (peakTo c) (storeContributions (storeAt s k))) (λ (c : ℕ). unitsOf (peakTo c) s d) (omega arith) (omega arith)
+  store-summed k l y h =
+      let b = sumsOf s (storesSoFar a ss) in
+      let e = store-answered s (storesSoFar a ss) k y in
+      subst (λ (r : StoreRead). Sums (sumsOf s (storesSoFar a (k ∷ ss))) (plusIn l (storeEmission r))) (sym (e .0))
+      (same-sums (λ (q c : ℕ). b q c + total (column q c) (storeContributions (storeAt s k))) (sumsOf s (storesSoFar a (k ∷ ss))) _ (λ q c. omega arith)
+      (record-summed b l h (storeAt s k) (e .1)))
 
 module _ (s : List ℕ) (h : AllYes (headAsks s)) where
   pub sources-short : (c : Chains) {link : ℕ} → Groups s c 0 → Stores s c link → length (sourcesOf (storesSoFar c (c .stores))) < mostSlots
@@ -177,11 +163,10 @@ module _ (s : List ℕ) (h : AllYes (headAsks s)) where
           counts-are = λ i. record { groups = h′ .counts-are i .groups; stores = n i };
           sources-are = q .source-marked ∙ ap (λ (l : List Bool). set l k true) (h′ .sources-are);
           reached-are = q .slot-marked ∙ ap (λ (l : List Bool). set l k true) (h′ .reached-are);
-          room = ap length d ∙ store-room summing totals (r .read) (h′ .room);
+          room = ap length d ∙ store-room summing totals (r .read) ∙ h′ .room;
           sums-are = λ e.
-              ap totalsIn d ∙ simp e
-              (plus-held totals (storeEmission (r .read)) (h′ .room) .1
-              ∙ (λ i. plusEmission (h′ .sums-are e i) (storeEmission (t .read i)))
-              ∙ store-summed s (p .c) (p .c .stores) k a);
+              subst (Sums (sumsOf s (storesSoFar (p .c) (k ∷ p .c .stores))))
+              (sym (d ∙ ap (λ (b : Bool). plusStore b totals (r .read)) e ∙ (λ i. plusIn totals (storeEmission (t .read i)))))
+              (store-summed s (p .c) (p .c .stores) k totals a (h′ .sums-are e));
         };
       }

@@ -10,20 +10,18 @@ use Rattle.sums.specs.declared.answer.Emission.{Emission}
 use Rattle.stores.specs.Rules.{handlingAnswer, standingAnswer, aspirationAnswer}
 use Rattle.vehicles.specs.Rules.{emissionCount}
 use Rattle.vehicles.specs.declared.rule.GroupAnswer.{GroupAnswer}
-use Rattle.slots.specs.Bytes.{slotOf}
-use Rattle.slots.specs.Layout.{headerOf}
 use Rattle.slots.specs.declared.header.Header.{Header}
 use Rattle.slots.specs.declared.store.Store.{Store}
 use Rattle.slots.specs.declared.store.Store.the-variants.{Handling, Standing, Aspiration}
 use Rattle.slots.specs.declared.store.StoreRead.{StoreRead}
 use Rattle.slots.specs.declared.store.StoreRead.the-variants.{Record, WrongKind, OutOfRange}
-use Rattle.slot_file.specs.Sources.{groupAt, storeAt, temperaturesAt, Chains}
+use Rattle.slot_file.specs.Sources.{groupAt, storeAt, headerAt, temperaturesAt, Chains}
 use Rattle.slot_file.specs.Questions.{headAsks, lastOf, sourcesOf, reachedOf, groupsSoFar, storesSoFar}
 use Rattle.slot_file.specs.Meaning.{AllYes, Groups, Stores, Accepts, Refuses}
 use Rattle.slot_file.specs.Figures.{groupContributions, storeContributions, countsOf}
 use Rattle.slot_file.specs.Alike.{total}
-use Rattle.slot_file.specs.Parts.{marksOf, annualTo, peakTo}
-use Rattle.totals.specs.Totals.{Totals, totalsOf, noNumbers, totalsIn, plusIn, plusToIn}
+use Rattle.slot_file.specs.Parts.{marksOf}
+use Rattle.totals.specs.Totals.{numberCount, noNumbers, plusIn, plusToIn, column, Sums}
 use Rattle.slot_file.specs.declared.Counts.{Counts}
 use Rattle.walk.specs.declared.walked.Walked.{Walked}
 
@@ -32,17 +30,17 @@ abbrev pub unitsOf : (Contribution → ℕ) → List ℕ → Chains → ℕ
 unitsOf f s c =
     total (λ (g : ℕ). total f (groupContributions (temperaturesAt s) (groupAt s g))) (c .groups) + total (λ (k : ℕ). total f (storeContributions (storeAt s k))) (c .stores)
 
--- the exact sums of the sources passed so far
-abbrev pub sumsOf : List ℕ → Chains → Totals
-sumsOf s c = totalsOf (λ (k : ℕ). unitsOf (annualTo k) s c) (λ (k : ℕ). unitsOf (peakTo k) s c)
+-- the exact sums of the sources passed so far, of the code k in column q
+abbrev pub sumsOf : List ℕ → Chains → ℕ → ℕ → ℕ
+sumsOf s c q k = unitsOf (column q k) s c
 
 -- WHAT THE WALK HOLDS after the sources on the chains so far: the marks of the sources and of all that they reach, their counts, and where sums are wanted their exact sums
 pub record Holds (s : List ℕ) (summing : Bool) (sources reached : List Bool) (totals : List ℕ) (counts : Counts) (c : Chains) : Type 0 where
   pub counts-are : counts ≡ countsOf c
   pub sources-are : sources ≡ marksOf (sourcesOf c)
   pub reached-are : reached ≡ marksOf (reachedOf s c)
-  pub room : length totals ≡ 40
-  pub sums-are : summing ≡ true → totalsIn totals ≡ sumsOf s c
+  pub room : length totals ≡ numberCount
+  pub sums-are : summing ≡ true → Sums (sumsOf s c) totals
 
 unfoldable pub plusGroup : Bool → List ℕ → GroupAnswer → List ℕ
 plusGroup summing l a = if_then_else summing (plusToIn l (a .emissions) emissionCount) l
@@ -50,7 +48,7 @@ plusGroup summing l a = if_then_else summing (plusToIn l (a .emissions) emission
 -- where the group chain begins: questions 1 to 5 are answered yes, nothing is marked but slot 0 and nothing is summed
 pub record GroupsBegin (s : List ℕ) (sources reached : List Bool) (totals : List ℕ) (h : Header) : Type 0 where
   pub head : AllYes (headAsks s)
-  pub header : h ≡ headerOf (slotOf s 0)
+  pub header : h ≡ headerAt s
   pub none-marked : sources ≡ marksOf []
   pub none-reached : reached ≡ marksOf []
   pub none-summed : totals ≡ noNumbers
@@ -88,7 +86,7 @@ plusStore summing l r = if_then_else summing (plusIn l (storeEmission r)) l
 -- where the store chain begins: the group chain has ended
 pub record StoresBegin (s : List ℕ) (summing : Bool) (sources reached : List Bool) (totals : List ℕ) (h : Header) (start : Walked) : Type 0 where
   pub head : AllYes (headAsks s)
-  pub header : h ≡ headerOf (slotOf s 0)
+  pub header : h ≡ headerAt s
   pub groups : GroupsEnded s summing sources reached totals (start .counts)
 
 -- the groups of c and the store records ss are passed, and the store chain goes on at the link

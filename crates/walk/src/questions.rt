@@ -2,8 +2,7 @@
 ghost use mathlib.Core.Path.{_≡_};
 ghost use Prim.Native.Nat.{_*_, _≤_};
 ghost use lib.ListN.{length};
-ghost use Rattle.slots.specs.Bytes.{slotOf};
-ghost use Rattle.slots.specs.Layout.{headerOf};
+ghost use Rattle.slot_file.specs.Sources.{headerAt};
 ghost use Rattle.slot_file.specs.Questions.{mostSlots, headAsks};
 ghost use Rattle.walk.specs.Told.{Told, LinkTold, RowTold, SootTold, ReachTold};
 use slot_file::MOST_SLOTS;
@@ -31,7 +30,7 @@ const MOST_BYTES: usize = 64 * MOST_SLOTS;
 
 // Questions 1 to 5, of the file and its slot 0.
 pub(crate) fn ask_head(file: &[u8], h: Header) -> Verdict
-    requires { ⌜ h ≡ headerOf (slotOf (now file) 0) ⌝ }
+    requires { ⌜ h ≡ headerAt (now file) ⌝ }
     ensures { λ r. ⌜ Told (headAsks (now (file .entry))) r ⌝ }
 {
     let n = file.len();

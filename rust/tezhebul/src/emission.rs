@@ -7,7 +7,7 @@ use crate::Refusal;
 pub const ANNUAL_DENOMINATOR: u64 = 20_000_000_000_000;
 
 /// Parts in a ten-millionth of a gram per second: the denominator of every peak rate.
-pub const PEAK_DENOMINATOR: u64 = 360_000_000;
+pub const PEAK_DENOMINATOR: u64 = 72_000_000;
 
 /// What one source gives of one substance, exactly and not rounded.
 #[derive(Clone, Copy, Debug, PartialEq, Eq)]

@@ -122,8 +122,8 @@ fn denominators() {
     assert_eq!(ANNUAL_DENOMINATOR, 20_000_000_000_000);
     let rate = standing(&SLAG).unwrap().peak;
     assert_eq!((rate.whole, rate.part), (0, 180_000_000));
-    assert_eq!(rate.denominator, 360_000_000);
-    assert_eq!(PEAK_DENOMINATOR, 360_000_000);
+    assert_eq!(rate.denominator, 72_000_000);
+    assert_eq!(PEAK_DENOMINATOR, 72_000_000);
 }
 
 /// Rows E and F.

@@ -1,14 +1,15 @@
--- The sums of the code's place are changed, where it has one, and the others are as they were (`Forty`).
-use borrow.Author.Tests.{ne-eqb}
+-- Both sums are added to at the code's place, where it has one.
+use borrow.Author.Tests.{eq-eqb, ne-eqb, lt-ltb, le-ltb}
 use native.Mathlib.Omega.{arith}
-use Prim.Native.Nat.{ℕ, _+_}
-use mathlib.Core.Path.{refl, ap, _∙_}
+use mathlib.Core.Path.{_≡_, refl, ap, _∙_}
+use mathlib.Core.List.{List}
+use Prim.Native.Nat.{ℕ}
 use lib.ListN.{length}
-use Rattle.sums.specs.Figures.{annualOf, annualParts, peakOf, peakParts}
-use Rattle.sums.specs.declared.mixed.Mixed.{Mixed}
-use Rattle.sums.proofs.Choices.{no}
-use Rattle.totals.specs.Totals.{sumAt, withSum, plusIn}
-use Rattle.totals.proofs.Forty.{length-with, added, not-added}
+use Rattle.sums.specs.Figures.{unitsIn}
+use Rattle.sums.proofs.Choices.{yes, no}
+use Rattle.slot_file.specs.Codes.{codes, codeCount, placeOf}
+use Rattle.totals.specs.Totals.{sumPlace, plusAt, plusBoth, plusIn}
+use Rattle.totals.proofs.Adding.{plus-length}
 use Rattle.totals.proofs.add.Statement.{statement}
 use Rattle.totals.proofs.add.Tie as tie
 
@@ -17,45 +18,29 @@ unfolding plusIn
 returns c = no _ _ _ _ (ne-eqb _ _ (c .if1 .taken)) refl
 
 returns-2 : tie.Need-returns-2
+unfolding plusIn
 returns-2 c =
-    let q = c .before .before in
-    let r = q .before .before in
-    let a = r .before .before .before in
-    let b = a .before .before .before in
-    let d = b .before .before in
-    let t = d .before .before .args in
-    let l = t .totals .now in
-    let e = b .before .place-of .ensures in
-    let x : Mixed = a .plus .result .0 in
-    let y : Mixed = r .plus2 .result .0 in
-    q .put-sums .ensures ∙ ap (λ (p : ℕ). withSum (withSum l 0 p x) 20 p y) e
-    ∙ added l (t .e) (d .if1 .left) (omega (arith, e, b .if2 .taken)) x y
-    (a .plus .ensures ∙ ap (λ (m : Mixed). annualOf (annualParts (record { 0 = m }) + annualParts (t .e .annual))) (a .before .sum-at .ensures ∙ ap (sumAt l 0) e))
-    (r .plus2 .ensures ∙ ap (λ (m : Mixed). peakOf (peakParts (record { 0 = m }) + peakParts (t .e .peak))) (r .before .sum-at2 .ensures ∙ ap (sumAt l 20) e))
+    let a = c .before .before in
+    let f = a .before .before .before .before in
+    let p = f .before .before .before .before in
+    let s = p .before .before .before .before .args in
+    let e = p .before .place-of .ensures in
+    yes _ _ _ _ (eq-eqb _ _ (p .before .before .if1 .left))
+    (yes _ _ _ _ (lt-ltb (placeOf codes (s .e .code)) codeCount (omega (arith, e, p .if2 .taken)))
+    (a .add-at2 .ensures
+    ∙ ap (λ (l : List ℕ). plusAt l (sumPlace 1 (p .before .place-of .result)) (unitsIn (s .e .peak .0))) (f .add-at .ensures)
+    ∙ ap (λ (k : ℕ). plusBoth (s .totals .now) k (s .e)) e))
 
 same-length : tie.Need-same-length
 same-length c =
-    let q = c .before .before in
-    let r = q .before .before in
-    let a = r .before .before .before in
-    let b = a .before .before .before in
-    let l = b .before .before .before .before .args .totals .now in
-    let p = b .before .place-of .result in
-    ap length (q .put-sums .ensures) ∙ length-with (withSum l 0 p (a .plus .result .0)) 20 p (r .plus2 .result .0) ∙ length-with l 0 p (a .plus .result .0)
+    ap length (c .before .before .add-at2 .ensures) ∙ plus-length _ _ _ ∙ ap length (c .before .before .before .before .before .before .add-at .ensures) ∙ plus-length _ _ _
 
 returns-3 : tie.Need-returns-3
+unfolding plusIn
 returns-3 c =
-    let t = c .before .before .before .before .args in
-    not-added (t .totals .now) (t .e) (c .before .before .if1 .left) (omega (arith, c .before .place-of .ensures, c .if2 .left))
+    let s = c .before .before .before .before .args in
+    yes _ _ _ _ (eq-eqb _ _ (c .before .before .if1 .left))
+    (no _ _ _ _ (le-ltb (placeOf codes (s .e .code)) codeCount (omega (arith, c .before .place-of .ensures, c .if2 .left))) refl)
 
 pub add-spec : {M : Type 1} → statement M
-add-spec =
-    tie.close
-    (tie.spec returns (omega arith)
-    (λ c κs. omega (arith, c .before .if2 .taken, c .before .before .before .if1 .left))
-    (omega arith)
-    (λ c κs. omega (arith, c .before .before .before .before .if2 .taken, c .before .before .before .before .before .before .if1 .left))
-    (omega arith)
-    (λ c κs. (c .before .before .before .before .before .before .before .before .before .if1 .left, c .before .before .before .before .before .before .before .if2 .taken))
-    same-length
-    returns-2 returns-3)
+add-spec = tie.close (tie.spec returns (omega arith) (omega arith) (omega arith) same-length returns-2 returns-3)

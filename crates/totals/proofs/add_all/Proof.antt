@@ -6,22 +6,23 @@ use mathlib.Core.Path.{_≡_, _∙_}
 use Prim.Native.Nat.{_≤_, _-_}
 use lib.ListN.{length}
 use Rattle.sums.specs.Figures.{mixedOf}
+use Rattle.vehicles.specs.Rules.{emissionCount}
 use Rattle.totals.specs.Totals.{plusToIn}
 use Rattle.totals.proofs.add_all.Statement.{statement}
 use Rattle.totals.proofs.add_all.Tie as tie
 
 abbrev Inv-loop : tie.InvT-loop
-Inv-loop totals₀ emissions i₀ totals i = (i ≤ 6) × (length totals ≡ length totals₀) × (totals ≡ plusToIn totals₀ emissions i)
+Inv-loop totals₀ emissions i₀ totals i = (i ≤ emissionCount) × (length totals ≡ length totals₀) × (totals ≡ plusToIn totals₀ emissions i)
 
 abbrev μ-loop : tie.MeasureT-loop
-μ-loop totals₀ emissions i₀ totals i = 6 - i
+μ-loop totals₀ emissions i₀ totals i = emissionCount - i
 
 loop-again : tie.Need-loop-again Inv-loop μ-loop
 unfolding plusToIn mixedOf
 loop-again c = (omega arith, omega arith, rw add-one (c .before .before .add .ensures ∙ rw (c .before .before .before .before .before .before .loop .inv .2)))
 
 returns : tie.Need-returns Inv-loop μ-loop
-returns c = let e : c .before .loop .i ≡ 6 = omega arith in rw e at (c .before .loop .inv .2)
+returns c = let e : c .before .loop .i ≡ emissionCount = omega arith in rw e at (c .before .loop .inv .2)
 
 pub add-all-spec : {M : Type 1} → statement M
 unfolding plusToIn

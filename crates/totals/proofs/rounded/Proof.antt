@@ -1,4 +1,4 @@
--- The figures of forty numbers, and of no others.
+-- The figures of memory that has the sums, and of no other.
 use native.Mathlib.Omega.{arith}
 use borrow.Author.Tests.{eq-eqb, ne-eqb}
 use mathlib.Core.Path.{refl}

@@ -1,5 +1,5 @@
 -- In range, the sums of the parts are those of the fractions.
-use borrow.Author.Needs.{needs}
+use native.Mathlib.Omega.{arith}
 use mathlib.Core.Path.{sym, _∙_}
 use Rattle.sums.proofs.Choices.{yes, no}
 use Rattle.stores.specs.Rules.{aspirationAnswer}
@@ -19,8 +19,8 @@ pub aspiration-emission-spec : {M : Type 1} → statement M
 unfolding aspirationAnswer
 aspiration-emission-spec =
     tie.close
-    (tie.spec (search needs)
+    (tie.spec (omega arith)
     (λ c κs. sym (c .before .aspiration-in-range .ensures) ∙ c .if1 .taken)
     (λ c κs. aspiration _ (sym (c .before .before .aspiration-in-range .ensures) ∙ c .before .if1 .taken) .dust)
-    (search needs) returns
+    (omega arith) returns
     (λ c. no _ _ _ _ (sym (c .before .before .aspiration-in-range .ensures) ∙ c .before .if1 .left) (c .out-of-range .ensures)))

@@ -1,5 +1,5 @@
 -- The ranges of the factors keep each product in 64 bits.
-use borrow.Author.Needs.{needs}
+use native.Mathlib.Omega.{arith}
 use native.Mathlib.Nat.{sub-le}
 use mathlib.Core.Path.{refl}
 use mir.Facts.{fits-below}
@@ -13,9 +13,9 @@ pub aspiration-parts-spec : {M : Type 1} → statement M
 unfolding aspirationParts
 aspiration-parts-spec =
     tie.close
-    (tie.spec (search needs) (search needs)
+    (tie.spec (omega arith) (omega arith)
     (λ c. let h = aspiration _ (c .before .before .pre) in fits-below tt (h .concentration ⊗ h .flow))
     (λ c. aspiration _ (c .before .before .before .pre) .capture)
-    (search needs)
+    (omega arith)
     (λ c. let h = aspiration _ (c .before .before .before .pre) in fits-below tt (h .concentration ⊗ h .flow ⊗ sub-le 10000 _))
     (λ c. refl))

@@ -1,5 +1,5 @@
 -- Each factor is its table's, and their bounds keep each product in 64 bits.
-use borrow.Author.Needs.{needs}
+use native.Mathlib.Omega.{arith}
 use mir.Facts.{fits-below}
 use Rattle.sums.proofs.Products.{_⊗_}
 use Rattle.stores.specs.Parts.{exposureParts}
@@ -19,11 +19,11 @@ returns c =
 pub exposure-spec : {M : Type 1} → statement M
 exposure-spec =
     tie.close
-    (tie.spec (search needs)
+    (tie.spec (omega arith)
     (λ c κs. bulk _ (c .before .pre) .openness)
     (λ c. fits-below tt (c .before .k3 .ensures .1 ⊗ c .k4 .ensures .1))
-    (search needs)
+    (omega arith)
     (λ c. fits-below tt (c .before .before .k3 .ensures .1 ⊗ c .before .k4 .ensures .1 ⊗ c .k5 .ensures .1))
-    (search needs)
+    (omega arith)
     (λ c. fits-below tt (returns c .1))
     returns)

@@ -1,5 +1,5 @@
 -- Each factor is its table's, and their bounds keep each product in 64 bits.
-use borrow.Author.Needs.{needs}
+use native.Mathlib.Omega.{arith}
 use native.Mathlib.Nat.{le-refl}
 use mir.Facts.{fits-below}
 use Rattle.sums.proofs.Products.{_⊗_}
@@ -14,12 +14,12 @@ handling-parts-spec =
     tie.close
     (tie.spec
     (λ c κs. handling _ (c .before .pre) .bulk .material)
-    (search needs)
+    (omega arith)
     (λ c κs. handling _ (c .before .before .pre) .bulk .material)
     (λ c. fits-below tt (le-refl 5 ⊗ c .before .k1 .ensures .1 ⊗ c .k2 .ensures .1))
     (λ c κs. handling _ (c .before .before .before .pre) .tested)
     (λ c. fits-below tt (le-refl 5 ⊗ c .before .before .k1 .ensures .1 ⊗ c .before .k2 .ensures .1 ⊗ c .exposure .ensures .1))
-    (search needs)
+    (omega arith)
     (λ c. let h = handling _ (c .before .before .before .before .before .pre) in
     fits-below tt
     (le-refl 5 ⊗ c .before .before .before .k1 .ensures .1 ⊗ c .before .before .k2 .ensures .1 ⊗ c .before .exposure .ensures .1 ⊗ h .bulk .amount))

@@ -1,5 +1,5 @@
 -- Each factor is its table's, and their bounds keep each product in 64 bits.
-use borrow.Author.Needs.{needs}
+use native.Mathlib.Omega.{arith}
 use native.Mathlib.Nat.{le-refl}
 use mir.Facts.{fits-below}
 use Rattle.sums.proofs.Products.{_⊗_}
@@ -14,12 +14,12 @@ standing-parts-spec =
     tie.close
     (tie.spec
     (λ c κs. standing _ (c .before .pre) .tested)
-    (search needs)
+    (omega arith)
     (λ c κs. standing _ (c .before .before .pre) .k6)
     (λ c. fits-below tt (le-refl 6 ⊗ c .before .exposure .ensures .1 ⊗ c .k6 .ensures .1))
     (λ c κs. standing _ (c .before .before .before .pre) .bulk .material)
     (λ c. fits-below tt (le-refl 6 ⊗ c .before .before .exposure .ensures .1 ⊗ c .before .k6 .ensures .1 ⊗ c .q .ensures .1))
-    (search needs)
+    (omega arith)
     (λ c. let h = standing _ (c .before .before .before .before .before .pre) in
     fits-below tt
     (le-refl 6 ⊗ c .before .before .before .exposure .ensures .1 ⊗ c .before .before .k6 .ensures .1 ⊗ c .before .q .ensures .1 ⊗ h .bulk .amount))

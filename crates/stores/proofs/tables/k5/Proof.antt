@@ -1,5 +1,4 @@
 -- The entry at the band is the table's, in whole parts.
-use borrow.Author.Needs.{needs}
 use native.Mathlib.Omega.{arith}
 use Rattle.sums.specs.Fraction.{_over_, partsOf}
 use Rattle.sums.specs.Table.{bounds}
@@ -13,7 +12,7 @@ pub k5-spec : {M : Type 1} → statement M
 unfolding partsOf
 k5-spec =
     tie.close
-    (tie.spec (search needs)
+    (tie.spec (omega arith)
     (λ c. omega (arith, line-below (bounds k5Table) (c .before .args .moisture)))
     (λ c. omega (arith, line-below (bounds k5Table) (c .before .args .moisture)))
     (λ c. let x = c .before .args .moisture in met (rw (c .moisture-band .ensures) (looked-up 100 k5Table (1 over 100) x)) (k5-scaled x)))

@@ -1,5 +1,5 @@
 -- The entry by number is the table's, in whole parts.
-use borrow.Author.Needs.{needs}
+use native.Mathlib.Omega.{arith}
 use Prim.Native.Nat.{_-_}
 use Rattle.sums.specs.Fraction.{partsOf}
 use Rattle.sums.proofs.Tables.{scaled-at}
@@ -12,5 +12,5 @@ pub q-spec : {M : Type 1} → statement M
 unfolding partsOf
 q-spec =
     tie.close
-    (tie.spec (search needs) (search needs) (search needs) (search needs)
+    (tie.spec (omega arith) (omega arith) (omega arith) (omega arith)
     (λ c. let n = c .args .material in met (scaled-at 1000 qTable (n - 1)) (q-scaled n)))

@@ -1,5 +1,4 @@
 -- x is high * 2 ^ 32 + low: the high product keeps its lowest 32 bits, and the low one is added.
-use borrow.Author.Needs.{needs}
 use native.Mathlib.Omega.{arith}
 use mathlib.Core.Path.{ap}
 use mir.Facts.{fits-below}
@@ -19,8 +18,8 @@ pub wrapping-product-spec : {M : Type 1} → statement M
 wrapping-product-spec =
     tie.close
     (tie.spec
-    (λ c. fits-below tt (mul-le-mul (high (c .args .x) (search needs)) (c .pre)))
-    (λ c. fits-below tt (mul-le-mul (low (c .args .x) (search needs)) (c .pre)))
-    (search needs)
-    (search needs)
+    (λ c. fits-below tt (mul-le-mul (high (c .args .x) (omega arith)) (c .pre)))
+    (λ c. fits-below tt (mul-le-mul (low (c .args .x) (omega arith)) (c .pre)))
+    (omega arith)
+    (omega arith)
     (λ c. omega (arith, ap (λ (n : ℕ). n * c .before .args .k) (div-add-mod' (c .before .args .x) 4294967296))))

@@ -1,5 +1,5 @@
 -- The row of the fuel.
-use borrow.Author.Needs.{needs}
+use native.Mathlib.Omega.{arith}
 use mathlib.Core.Path.{refl}
 use borrow.Author.Tests.{eq-eqb, ne-eqb}
 use Rattle.sums.proofs.Choices.{yes, no}
@@ -11,6 +11,6 @@ pub code-of-spec : {M : Type 1} → statement M
 unfolding codeOf
 code-of-spec =
     tie.close
-    (tie.spec (search needs) (search needs) (search needs) (search needs)
+    (tie.spec (omega arith) (omega arith) (omega arith) (omega arith)
     (λ c. yes _ _ _ _ (eq-eqb _ 1 (c .if1 .taken)) refl)
     (λ c. no _ _ _ _ (ne-eqb _ 1 (c .if1 .left)) refl))

@@ -1,5 +1,5 @@
 -- The control factor is at most 100 percent, and the year and the trip out have their bounds; the calls together are the definition.
-use borrow.Author.Needs.{needs}
+use native.Mathlib.Omega.{arith}
 use Rattle.vehicles.specs.Parts.{emissionParts}
 use Rattle.vehicles.proofs.Scales.{control}
 use Rattle.vehicles.proofs.Bounds.{out-most, year-most}
@@ -47,4 +47,4 @@ returns c =
 
 pub emission-of-spec : {M : Type 1} → statement M
 emission-of-spec =
-    tie.close (tie.spec (search needs) (search needs) year-of-requires annual-of-requires out-of-requires peak-of-requires returns)
+    tie.close (tie.spec (omega arith) (omega arith) year-of-requires annual-of-requires out-of-requires peak-of-requires returns)

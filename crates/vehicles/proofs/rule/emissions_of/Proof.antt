@@ -1,5 +1,4 @@
 -- The emissions of the places passed stand in their places, in parts; the parts are what the rule gives.
-use borrow.Author.Needs.{needs}
 use native.Mathlib.Omega.{arith}
 use mathlib.Core.Path.{_≡_, refl, _∙_}
 use Prim.Native.Nat.{ℕ, _≤_, _<_, _-_}
@@ -56,7 +55,7 @@ returns c =
     let b = c .before in
     let s = b .before .before .before .before .before .args in
     let e : b .loop .p ≡ emissionCount = omega arith in
-    let x = toZ-ofZ {w = w16} {z = b .before .before .before .lowest .result} (search needs) in
+    let x = toZ-ofZ {w = w16} {z = b .before .before .before .lowest .result} (omega arith) in
     listTo-is noEmission emissionCount (b .loop .emissions) (λ (m : ℕ). emissionOf (s .g) (s .ts) (getD (s .t3) m noCoefficients) m) (b .loop .inv .1)
     (λ m q.
     (rw e at (b .loop .inv .2)) m q
@@ -66,5 +65,5 @@ returns c =
 pub emissions-of-spec : {M : Type 1} → statement M
 emissions-of-spec =
     tie.close
-    (tie.spec Inv-loop μ-loop (λ c κs. c .pre .0) (search needs) (search needs) (search needs) loop-holds (omega arith) (omega arith) emission-of-requires
+    (tie.spec Inv-loop μ-loop (λ c κs. c .pre .0) (omega arith) (omega arith) (omega arith) loop-holds (omega arith) (omega arith) emission-of-requires
     (omega arith) (omega arith) (omega arith) (omega arith) loop-again returns)

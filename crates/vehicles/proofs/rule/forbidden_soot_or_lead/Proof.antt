@@ -1,5 +1,5 @@
 -- The tests, two of them by their own promises.
-use borrow.Author.Needs.{needs}
+use native.Mathlib.Omega.{arith}
 use Rattle.vehicles.specs.Rules.{notZero}
 use Rattle.vehicles.proofs.rule.forbidden_soot_or_lead.Statement.{statement}
 use Rattle.vehicles.proofs.rule.forbidden_soot_or_lead.Tie as tie
@@ -8,5 +8,5 @@ pub forbidden-soot-or-lead-spec : {M : Type 1} → statement M
 unfolding notZero
 forbidden-soot-or-lead-spec =
     tie.close
-    (tie.spec (search needs) (search needs) (search needs) (search needs)
+    (tie.spec (omega arith) (omega arith) (omega arith) (omega arith)
     (λ c. rw (c .all-zero2 .ensures, c .before .before .before .all-zero .ensures)))

@@ -1,5 +1,5 @@
 -- The two tests choose the answer; a group in range has what the emissions ask.
-use borrow.Author.Needs.{needs}
+use native.Mathlib.Omega.{arith}
 use mathlib.Core.Path.{_∙_, sym}
 use Rattle.sums.proofs.Choices.{yes, no}
 use Rattle.vehicles.specs.Rules.{groupAnswer}
@@ -11,9 +11,9 @@ pub group-emissions-spec : {M : Type 1} → statement M
 unfolding groupAnswer
 group-emissions-spec =
     tie.close
-    (tie.spec (search needs) (search needs) (search needs)
+    (tie.spec (omega arith) (omega arith) (omega arith)
     (λ c κs. all-in-range _ _ _ (sym (c .before .before .before .in-range .ensures) ∙ c .before .before .if1 .taken))
-    (search needs)
+    (omega arith)
     (λ c.
     yes _ _ _ _ (sym (c .before .before .before .before .in-range .ensures) ∙ c .before .before .before .if1 .taken)
     (yes _ _ _ _ (sym (c .before .before .forbidden-soot-or-lead .ensures) ∙ c .before .if2 .taken) (c .refusal .ensures)))

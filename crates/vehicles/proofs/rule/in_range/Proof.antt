@@ -1,5 +1,5 @@
 -- The tests, by their own promises.
-use borrow.Author.Needs.{needs}
+use native.Mathlib.Omega.{arith}
 use Rattle.vehicles.specs.Rules.{inRange}
 use Rattle.vehicles.proofs.rule.in_range.Statement.{statement}
 use Rattle.vehicles.proofs.rule.in_range.Tie as tie
@@ -8,5 +8,5 @@ pub in-range-spec : {M : Type 1} → statement M
 unfolding inRange
 in-range-spec =
     tie.close
-    (tie.spec (search needs) (search needs) (search needs)
+    (tie.spec (omega arith) (omega arith) (omega arith)
     (λ c. rw (c .all-in-range .ensures, c .before .temperatures-in-range .ensures, c .before .before .group-in-range .ensures)))

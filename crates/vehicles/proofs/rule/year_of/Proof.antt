@@ -1,5 +1,6 @@
 -- What is in range has the bounds that the mass asks; the calls together are the definition.
 use borrow.Author.Needs.{needs}
+use native.Mathlib.Omega.{arith}
 use Rattle.vehicles.specs.Parts.{yearParts}
 use Rattle.vehicles.proofs.Ranges.{ranged}
 use Rattle.vehicles.proofs.Periods.{warmup-parts, run-parts, idle-parts}
@@ -22,4 +23,4 @@ unfolding yearParts
 returns c = rw (c .mass-of .ensures, c .before .over .ensures, c .before .before .run-of .ensures, c .before .before .before .warmup-of .ensures)
 
 pub year-of-spec : {M : Type 1} → statement M
-year-of-spec = tie.close (tie.spec (λ c κs. search needs) (λ c κs. search needs) (search needs) mass-of-requires returns)
+year-of-spec = tie.close (tie.spec (λ c κs. search needs) (λ c κs. search needs) (omega arith) mass-of-requires returns)

@@ -1,14 +1,12 @@
 -- A refused walk is answered its refusal; the sums of an accepted file have the figures of its exact sums (`FileFigures`), and its counts are the chains' lengths.
 use native.Mathlib.Omega.{arith}
-use mathlib.Core.Path.{refl, sym, ap, _∙_}
+use mathlib.Core.Path.{refl, sym, _∙_}
 use Rattle.slot_file.specs.Questions.{accepted, refused}
 use Rattle.slot_file.specs.Figures.{summed}
 use Rattle.slot_file.proofs.Verdicts.{only}
 use Rattle.slot_file.proofs.Numbers.{refused-answer}
 use Rattle.slot_file.proofs.Rounded.{summed-counts}
 use Rattle.slot_file.proofs.Agreement.{accepted-answer}
-use Rattle.totals.specs.Totals.{figuresOf}
-use Rattle.totals.proofs.Forty.{figures-held}
 use Rattle.walk.proofs.FileFigures.{file-figures}
 use Rattle.walk.proofs.file.answer.Statement.{statement}
 use Rattle.walk.proofs.file.answer.Tie as tie
@@ -26,7 +24,7 @@ returns-2 c =
     let w = c .before .before .before .before .before .before .before .before .before in
     let s = w .before .before .before .before .args .file .now in
     let a = w .walk-file .ensures .accepted (c .before .before .before .before .before .if1 .left) in
-    let f = c .before .before .before .rounded .ensures ∙ figures-held _ (a .holds .room) ∙ ap figuresOf (a .holds .sums-are refl) ∙ file-figures s (a .c) (a .accepts) in
+    let f = c .before .before .before .rounded .ensures ∙ file-figures s (a .c) (a .accepts) _ (a .holds .sums-are refl) in
     let n = a .holds .counts-are ∙ sym (summed-counts s (a .c)) in
     (λ i. record { number = 0; slot = 0; annual = f i .annual; peak = f i .peak; counts = n i })
     ∙ sym (accepted-answer s (a .c) (only s (accepted (a .c)) (a .accepts)))

@@ -2,7 +2,7 @@
 -- ends.
 use native.Mathlib.Omega.{arith}
 use Prim.Native.Nat.{_-_}
-use mathlib.Core.Path.{refl, sym, ap, _∙_}
+use mathlib.Core.Path.{refl, sym, ap, subst, _∙_}
 use mathlib.Core.List.{List, []}
 use lib.IntN.{ℤ}
 use lib.ListN.{length}
@@ -14,9 +14,10 @@ use Rattle.slot_file.specs.Questions.{mostSlots, reachedBy, groupsSoFar}
 use Rattle.slot_file.specs.Meaning.{at-group}
 use Rattle.slot_file.proofs.Verdicts.{bytes-most}
 use Rattle.slot_file.specs.declared.Counts.{Counts}
-use Rattle.totals.specs.Totals.{totalsIn}
+use Rattle.totals.specs.Totals.{Sums}
+use Rattle.totals.proofs.Sums.{no-sums}
 use Rattle.walk.specs.Walked.{plusGroup, GroupsPassed}
-use Rattle.walk.proofs.Passing.{no-sums, groups-short, groups-ended, group-passed}
+use Rattle.walk.proofs.Passing.{groups-short, groups-ended, group-passed}
 use Rattle.walk.proofs.groups.walk_groups.Statement.{statement}
 use Rattle.walk.proofs.groups.walk_groups.Tie as tie
 
@@ -40,7 +41,7 @@ loop-holds c =
         sources-are = b .none-marked;
         reached-are = b .none-reached;
         room = ap length (b .none-summed);
-        sums-are = λ _. ap totalsIn (b .none-summed) ∙ no-sums (c .before .before .before .before .args .file .now);
+        sums-are = λ _. subst (Sums _) (sym (b .none-summed)) no-sums;
       };
     }
 

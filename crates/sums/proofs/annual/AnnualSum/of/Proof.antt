@@ -1,7 +1,7 @@
 -- By `Mixed::of` with this denominator.
-use borrow.Author.Needs.{needs}
+use native.Mathlib.Omega.{arith}
 use Rattle.sums.proofs.annual.AnnualSum.of.Statement.{statement}
 use Rattle.sums.proofs.annual.AnnualSum.of.Tie as tie
 
 pub of-spec : {M : Type 1} → statement M
-of-spec = tie.close (tie.spec (search needs) (λ c. rw (c .of .ensures)))
+of-spec = tie.close (tie.spec (omega arith) (λ c. rw (c .of .ensures)))

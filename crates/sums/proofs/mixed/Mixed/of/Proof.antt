@@ -1,8 +1,7 @@
--- The quotient of a u64 has 64 bits.
-use borrow.Author.Needs.{needs}
+-- A u64 is one word.
 use native.Mathlib.Omega.{arith}
-use Prim.Native.Nat.{_/_, _<_, _^_}
-use native.Mathlib.Nat.{mod-eq-of-lt, div-le-self}
+use mathlib.Core.Path.{_≡_}
+use Prim.Native.Nat.{_/_, _%_, _^_}
 use Rattle.sums.specs.Figures.{mixedOf}
 use Rattle.sums.proofs.mixed.Mixed.of.Statement.{statement}
 use Rattle.sums.proofs.mixed.Mixed.of.Tie as tie
@@ -10,8 +9,9 @@ use Rattle.sums.proofs.mixed.Mixed.of.Tie as tie
 returns : tie.Need-returns
 unfolding mixedOf
 returns c =
-    let h : c .args .x / c .args .d < 2 ^ 64 = omega (arith, div-le-self (c .args .x) (c .args .d)) in
-    rw (mod-eq-of-lt h)
+    let h : 0 ≡ c .args .x / 2 ^ 64 % 2 ^ 64 = omega arith in
+    let l : c .args .x ≡ c .args .x % 2 ^ 64 = omega arith in
+    λ i. record { whole = h i; part = l i }
 
 pub of-spec : {M : Type 1} → statement M
-of-spec = tie.close (tie.spec (search needs) (search needs) returns)
+of-spec = tie.close (tie.spec returns)
