@@ -61,3 +61,10 @@ unfolding nearest
 rounded d x z =
     mod-add-mod (x / d) (2 ^ 64) ((2 * (x % d) + d) / (2 * d))
     ∙ ap (λ (n : ℕ). n % 2 ^ 64) (add-comm (x / d) ((2 * (x % d) + d) / (2 * d)) ∙ sym (halved d x (x / d) (x % d) z (sym (div-add-mod' x d))))
+
+pub no-units : (d x : ℕ) → 0 < d → x ≡ 0 → 0 ≡ nearest (x over d) % 2 ^ 64
+unfolding nearest
+no-units d x z e =
+    let p : 0 < 2 * d = omega (arith, z) in
+    let f : (2 * x + d) / (2 * d) < 1 = div-lt-iff-lt-mul p .1 (omega (arith, e, z)) in
+    omega (arith, f)

@@ -152,11 +152,16 @@ impl Mixed {
         }
     }
 
-    // So many units over d, to the nearest whole.
+    // So many units over d, to the nearest whole. Of no units it is none, which many a code of a file has.
     pub(crate) fn rounded(self, d: u64) -> u64
         requires { ⌜ Denominator d ⌝ }
         ensures { λ r. ⌜ r ≡ nearest (unitsIn self over d) % 2 ^ 64 ⌝ }
     {
+        if self.part == 0 {
+            if self.whole == 0 {
+                return 0;
+            }
+        }
         let m = self.over(d);
         let up = (2 * m.part + d) / (2 * d);
         wrapping_add_u64(m.whole, up)

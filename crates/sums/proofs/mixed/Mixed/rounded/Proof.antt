@@ -1,18 +1,26 @@
--- One more where what is left is half or more.
+-- No units are none; else one more where what is left is half or more.
 use native.Mathlib.Omega.{arith}
-use Prim.Native.Nat.{_^_}
-use Rattle.sums.specs.Figures.{partsIn, mixedOf}
-use Rattle.sums.proofs.LongDivision.{rounded}
+use Prim.Native.Nat.{_+_, _*_, _^_}
+use mathlib.Core.Path.{_≡_}
+use Rattle.sums.specs.Figures.{partsIn, mixedOf, unitsIn}
+use Rattle.sums.proofs.LongDivision.{no-units, rounded}
 use Rattle.sums.proofs.mixed.Mixed.rounded.Statement.{statement}
 use Rattle.sums.proofs.mixed.Mixed.rounded.Tie as tie
 
 returns : tie.Need-returns
-unfolding mixedOf
+unfolding partsIn
 returns c =
+    let s = c .before .before .before .before in
+    let m = s .args .self in
+    let e : m .whole * 2 ^ 64 + m .part ≡ 0 = omega (arith, c .if2 .taken, c .before .before .if1 .taken) in
+    no-units (s .args .d) _ (s .pre .least) e
+
+returns-2 : tie.Need-returns-2
+unfolding mixedOf
+returns-2 c =
     let o = c .before .before in
-    let s = o .before in
-    let x = partsIn (2 ^ 64) (s .args .self) in
-    rw (c .wrapping-add-u64 .ensures, o .over .ensures .0) (rounded (s .args .d) x (s .pre .least))
+    let s = o .before .before .before in
+    rw (c .wrapping-add-u64 .ensures, o .over .ensures .0) (rounded (s .args .d) (unitsIn (s .args .self)) (s .pre .least))
 
 pub rounded-spec : {M : Type 1} → statement M
-rounded-spec = tie.close (tie.spec (omega arith) (omega arith) (omega arith) (omega arith) (omega arith) (omega arith) returns)
+rounded-spec = tie.close (tie.spec returns (omega arith) (omega arith) (omega arith) (omega arith) (omega arith) (omega arith) returns-2)
