@@ -460,6 +460,7 @@ FACTOR = 2**32 - 1
 def sums_cases(denominators):
     edge = [
         ("nothing", Sums(0, 0, 0)),
+        ("anything by 0", Sums(ALL, 1, 0)),
         ("last of a word", Sums(WORD, 1, FACTOR)),
         ("a word and one", Sums(WORD + 1, WORD, FACTOR)),
         ("two last of a word", Sums(WORD, WORD, 2)),

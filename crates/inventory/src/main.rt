@@ -11,7 +11,7 @@ fn show(file: &[u8]) {
 }
 
 // One byte more than the longest inventory file.
-const ROOM: usize = 64 * slot_file::MOST_SLOTS + 1;
+const ROOM: usize = slots::SLOT_SIZE * slot_file::MOST_SLOTS + 1;
 
 // An input that is longer than any inventory file fills the room, and is refused by its length with the rest unread. After the last byte a
 // further read tells the end of the input from a failure; an input that was not read to its end counts as empty, since a part of a file is no file.

@@ -2,7 +2,7 @@
 ghost use Prim.Native.Nat.{_+_, _*_, _≤_};
 ghost use Rattle.slot_file.specs.Codes.{codes, codeCount};
 ghost use Rattle.slot_file.specs.Listing.{line, lines, listing, refusalLine, printed};
-ghost use Rattle.listing.specs.Text.{listingRoom, Added, pair, lineMost};
+ghost use Rattle.listing.specs.Text.{listingRoom, Added, pair, pairMost, lineMost};
 use super::LISTING_ROOM;
 use super::numbers;
 use super::text;
@@ -39,8 +39,8 @@ fn put_lines(out: &mut [u8; LISTING_ROOM], from: usize, a: Answer) -> usize
 
 // Two numbers parted by a space, and a line feed.
 fn put_pair(out: &mut [u8; LISTING_ROOM], from: usize, x: u64, y: u64) -> usize
-    requires { ⌜ from + 42 ≤ listingRoom ⌝ }
-    ensures { λ r. ⌜ Added (now (out .entry)) from (now (out .exit)) r (pair x y) × (r ≤ from + 42) ⌝ }
+    requires { ⌜ from + pairMost ≤ listingRoom ⌝ }
+    ensures { λ r. ⌜ Added (now (out .entry)) from (now (out .exit)) r (pair x y) × (r ≤ from + pairMost) ⌝ }
 {
     let at = numbers::put_decimal(out, from, x);
     let at = text::put_byte(out, at, b' ');

@@ -12,7 +12,7 @@ use stores::StoreAnswer;
 use sums::AnnualSum;
 use sums::Emission;
 use sums::PeakSum;
-use sums::mixed::Mixed;
+use sums::words::Words;
 use vehicles::EMISSIONS;
 
 // What the case adds to the totals.
@@ -61,12 +61,12 @@ fn group(r: &Record, times: u16) -> [Emission; EMISSIONS] {
 }
 
 // The words of a sum, the low one first.
-fn words_at(r: &Record, at: usize) -> Mixed
+fn words_at(r: &Record, at: usize) -> Words
     requires { ⌜ at + 16 ≤ 320 ⌝ }
 {
-    Mixed {
-        whole: u64_at(r, at + 8),
-        part: u64_at(r, at),
+    Words {
+        high: u64_at(r, at + 8),
+        low: u64_at(r, at),
     }
 }
 
@@ -83,7 +83,7 @@ fn both_sums(r: &Record) -> [Emission; EMISSIONS] {
 fn annual_sums(a: AnnualSum, b: AnnualSum, k: u32) {
     let m = a.0;
     io::write_all(1, b"annual of ");
-    printing::annual_sum(AnnualSum::of(m.part));
+    printing::annual_sum(AnnualSum::of(m.low));
     io::write_all(1, b"annual plus ");
     printing::annual_sum(a.plus(b));
     io::write_all(1, b"annual times ");
@@ -95,7 +95,7 @@ fn annual_sums(a: AnnualSum, b: AnnualSum, k: u32) {
 fn peak_sums(a: PeakSum, b: PeakSum, k: u32) {
     let m = a.0;
     io::write_all(1, b"peak of ");
-    printing::peak_sum(PeakSum::of(m.part));
+    printing::peak_sum(PeakSum::of(m.low));
     io::write_all(1, b"peak plus ");
     printing::peak_sum(a.plus(b));
     io::write_all(1, b"peak times ");

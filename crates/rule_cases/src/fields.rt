@@ -16,6 +16,7 @@ use vehicles::Group;
 use vehicles::Metres;
 use vehicles::Minutes;
 use vehicles::Neutraliser;
+use vehicles::POLLUTANTS;
 use vehicles::PerKilometre;
 use vehicles::PerMinute;
 
@@ -138,7 +139,7 @@ fn pollutant(r: &Record, at: usize) -> Coefficients
     }
 }
 
-pub(crate) fn coefficients(r: &Record) -> [Coefficients; 6] {
+pub(crate) fn coefficients(r: &Record) -> [Coefficients; POLLUTANTS] {
     [
         pollutant(r, 108),
         pollutant(r, 136),

@@ -5,6 +5,7 @@ use sums::Emission;
 use sums::PeakSum;
 use sums::Verdict;
 use sums::mixed::Mixed;
+use sums::words::Words;
 use vehicles::EMISSIONS;
 
 // The record's first 32 bytes.
@@ -89,8 +90,10 @@ pub(crate) fn added(times: u16) {
 }
 
 // A sum's words, and its printed units.
-fn sum_line(words: Mixed, printed: Mixed) {
-    mixed(words);
+fn sum_line(words: Words, printed: Mixed) {
+    number(words.high);
+    space();
+    number(words.low);
     space();
     mixed(printed);
     line_end();

@@ -1,9 +1,9 @@
 -- A verdict means what the questions say, and only that verdict does. Each chain is walked by `Chains.walks`; what is asked of its slots keeps them different
 -- and below the slot count, so the walk never runs out. Assumes nothing.
-use Prim.Native.Nat.{ℕ, suc, _*_, _%_, _<_, _≤_}
+use Prim.Native.Nat.{ℕ, suc, _%_, _<_, _≤_}
 use mathlib.Core.Path.{_≡_, refl, subst, _∙_}
 use mathlib.Core.Logic.{_↔_}
-use mathlib.Core.List.{List, [], _∷_, _++_}
+use mathlib.Core.List.{List, [], _∷_}
 use mathlib.Core.Bool.{_&&_}
 use lib.ListN.{length, length-append}
 use lib.Dec.{leb, eqb}
@@ -11,10 +11,10 @@ use native.Mathlib.Omega.{arith}
 use borrow.Author.Tests.{leb-true, ltb-true, ne-eqb, not-true}
 use Rattle.sums.specs.Choice.{if_then_else}
 use Rattle.sums.proofs.Choices.{left, right}
-use Rattle.slots.specs.Bytes.{slotOf}
+use Rattle.slots.specs.Bytes.{slotSize, slotOf}
 use Rattle.slots.specs.Layout.{nextOf}
 use Rattle.slot_file.specs.Sources.{headerAt, Chains}
-use Rattle.slot_file.specs.Questions.{mostSlots, Question, slotCount, headAsks, member, linkAsks, sourcesOf, groupsSoFar, storesSoFar, groupAsks, storeAsks, lastAsks, Verdict, accepted, refused}
+use Rattle.slot_file.specs.Questions.{mostSlots, mostBytes, Question, slotCount, headAsks, member, linkAsks, sourcesOf, groupsSoFar, storesSoFar, groupAsks, storeAsks, lastAsks, Verdict, accepted, refused}
 use Rattle.slot_file.specs.Walk.{first, chain, afterAll, storeWalk, groupWalk, verdict}
 use Rattle.slot_file.specs.Meaning.{AllYes, Reached, Chain, Good, Groups, Accepts, at-head, at-group, at-store, at-last, Means}
 use Rattle.slot_file.proofs.Asking.{first-yes, first-no, first-both}
@@ -22,12 +22,12 @@ use Rattle.slot_file.proofs.Marks.{Different, different-short}
 use Rattle.slot_file.proofs.Chains.{Walks, walks, one-chain}
 
 -- question 1 keeps the bytes, and so the slots, to the most
-pub bytes-most : (s : List ℕ) → AllYes (headAsks s) → length s ≤ 64 * mostSlots
+pub bytes-most : (s : List ℕ) → AllYes (headAsks s) → length s ≤ mostBytes
 unfolding headAsks
 bytes-most s h =
-    let a = leb 64 (length s) in
-    let b = leb (length s) (64 * mostSlots) in
-    leb-true (length s) (64 * mostSlots) (right a b (left (a && b) (eqb (length s % 64) 0) (h .0)))
+    let a = leb slotSize (length s) in
+    let b = leb (length s) mostBytes in
+    leb-true (length s) mostBytes (right a b (left (a && b) (eqb (length s % slotSize) 0) (h .0)))
 
 pub sized : (s : List ℕ) → AllYes (headAsks s) → slotCount s ≤ mostSlots
 sized s h = let l = bytes-most s h in omega arith

@@ -7,7 +7,7 @@ use lib.ListN.{length}
 use Rattle.sums.specs.Choice.{if_then_else}
 use Rattle.vehicles.specs.Fields.{pollutantCount, temperaturesInRange}
 use Rattle.vehicles.specs.Rules.{notZero}
-use Rattle.slots.specs.Bytes.{slotOf}
+use Rattle.slots.specs.Bytes.{slotSize, slotOf}
 use Rattle.slots.specs.Layout.{groupRead, coefficientsRead, readStore, readNumber}
 use Rattle.slot_file.specs.Sources.{coefficientSlot, groupAt, headerAt, Chains}
 
@@ -32,14 +32,17 @@ lastNumber = 12
 abbrev pub mostSlots : ℕ
 mostSlots = 1024
 
+abbrev pub mostBytes : ℕ
+mostBytes = slotSize * mostSlots
+
 -- slots of the file
 abbrev pub slotCount : List ℕ → ℕ
-slotCount s = length s / 64
+slotCount s = length s / slotSize
 
 -- questions 1 to 5, of the file and its slot 0; "The slot is 0 for 1 to 5"
 unfoldable pub headAsks : List ℕ → List Question
 headAsks s =
-    question (leb 64 (length s) && leb (length s) (64 * mostSlots) && eqb (length s % 64) 0) 1 0  -- "Is the length a multiple of 64, from 64 to 65,536?"
+    question (leb slotSize (length s) && leb (length s) mostBytes && eqb (length s % slotSize) 0) 1 0  -- "Is the length a multiple of 64, from 64 to 65,536?"
     ∷ question (eqb (headerAt s .format) 1) 2 0  -- "Is the format number 1?"
     ∷ question (eqb (headerAt s .count) (slotCount s)) 3 0  -- "Does the slot count equal length / 64?"
     ∷ question (headerAt s .rest) 4 0  -- "Are bytes 32..63 of slot 0 zero?"

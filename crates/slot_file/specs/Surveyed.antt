@@ -70,7 +70,7 @@ pub record Row : Type 0 where
 abbrev given : List ℕ → List ℕ → Row
 given f t = record { file = f; prints = t }
 
--- a code's line, zero where it is not the one that has figures
+-- a code's line, zero where it is not the one that has figures; that codes and counts are written so, B's listing below says letter by letter
 abbrev codeLine : ℕ → String → ℕ → List ℕ
 codeLine c figures d = padded 4 d ++ if_then_else (eqb c d) (text figures) (text " 0.000000 0.0000000") ++ text "\n"
 

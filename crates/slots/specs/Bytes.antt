@@ -7,13 +7,16 @@ use lib.IntN.{ℤ, pos, negsuc}
 use lib.ListN.{getD, length, replicate}
 use Rattle.sums.specs.Choice.{if_then_else, listTo}
 
--- 64 bytes from a place of the file on
+abbrev pub slotSize : ℕ
+slotSize = 64
+
+-- the bytes of a slot, from a place of the file on
 unfoldable pub bytesFrom : List ℕ → ℕ → List ℕ
-bytesFrom s base = listTo 64 (λ (i : ℕ). getD s (base + i) 0)
+bytesFrom s base = listTo slotSize (λ (i : ℕ). getD s (base + i) 0)
 
 -- slot n; a slot that the file does not have reads as zero
 unfoldable pub slotOf : List ℕ → ℕ → List ℕ
-slotOf s n = if_then_else (ltb n (length s / 64)) (bytesFrom s (64 * n)) (replicate 64 0)
+slotOf s n = if_then_else (ltb n (length s / slotSize)) (bytesFrom s (slotSize * n)) (replicate slotSize 0)
 
 -- "a..b are byte positions": the byte at a, and the two and four from a on
 abbrev pub byteAt : List ℕ → ℕ → ℕ

@@ -1,7 +1,7 @@
 // A coefficient slot.
 ghost use mathlib.Core.Path.{_≡_};
 ghost use lib.ListN.{length};
-ghost use Rattle.slots.specs.Bytes.{slotOf};
+ghost use Rattle.slots.specs.Bytes.{slotSize, slotOf};
 ghost use Rattle.slots.specs.Layout.{coefficientsOf, coefficientsGood, coefficientsRead};
 use super::numbers;
 use super::slot;
@@ -18,7 +18,7 @@ pub struct CoefficientsRead {
 }
 
 fn coefficients_of(t: &[u8]) -> Coefficients
-    requires { ⌜ length (now t) ≡ 64 ⌝ }
+    requires { ⌜ length (now t) ≡ slotSize ⌝ }
     ensures { λ r. ⌜ r ≡ coefficientsOf (now (t .entry)) ⌝ }
 {
     let warmup = [
@@ -39,7 +39,7 @@ fn coefficients_of(t: &[u8]) -> Coefficients
 }
 
 fn coefficients_good(t: &[u8], k: Coefficients) -> bool
-    requires { ⌜ length (now t) ≡ 64 ⌝ }
+    requires { ⌜ length (now t) ≡ slotSize ⌝ }
     ensures { λ r. ⌜ r ≡ coefficientsGood (now (t .entry)) k ⌝ }
 {
     vehicles::coefficients_in_range(k) & numbers::zero_from(t, 32, 32)
@@ -49,7 +49,7 @@ fn coefficients_good(t: &[u8], k: Coefficients) -> bool
 pub fn read_coefficients(file: &[u8], n: usize) -> CoefficientsRead
     ensures { λ r. ⌜ r ≡ coefficientsRead (slotOf (now (file .entry)) n) ⌝ }
 {
-    let none = [0; 64];
+    let none = [0; slot::SLOT_SIZE];
     let t = slot::slot_at(file, &none, n);
     let k = coefficients_of(t);
     CoefficientsRead {

@@ -2,7 +2,7 @@
 ghost use mathlib.Core.Path.{_≡_};
 ghost use Prim.Native.Nat.{_+_, _≤_};
 ghost use lib.ListN.{length};
-ghost use Rattle.slots.specs.Bytes.{slotOf};
+ghost use Rattle.slots.specs.Bytes.{slotSize, slotOf};
 ghost use Rattle.slots.specs.Layout.{daysOf, distancesAt, groupOf, groupGood, groupRead};
 use super::numbers;
 use super::slot;
@@ -21,7 +21,7 @@ pub struct GroupRead {
 }
 
 fn days_of(t: &[u8]) -> [u8; 12]
-    requires { ⌜ length (now t) ≡ 64 ⌝ }
+    requires { ⌜ length (now t) ≡ slotSize ⌝ }
     ensures { λ r. ⌜ r ≡ daysOf (now (t .entry)) ⌝ }
 {
     [
@@ -51,7 +51,7 @@ fn distances_at(t: &[u8], at: usize) -> Distances
 }
 
 fn group_of(t: &[u8]) -> Group
-    requires { ⌜ length (now t) ≡ 64 ⌝ }
+    requires { ⌜ length (now t) ≡ slotSize ⌝ }
     ensures { λ r. ⌜ r ≡ groupOf (now (t .entry)) ⌝ }
 {
     Group {
@@ -74,7 +74,7 @@ fn group_of(t: &[u8]) -> Group
 }
 
 fn group_good(t: &[u8], g: Group) -> bool
-    requires { ⌜ length (now t) ≡ 64 ⌝ }
+    requires { ⌜ length (now t) ≡ slotSize ⌝ }
     ensures { λ r. ⌜ r ≡ groupGood (now (t .entry)) g ⌝ }
 {
     vehicles::group_in_range(g) & (t[5] <= 3) & numbers::zero_from(t, 36, 28)
@@ -84,7 +84,7 @@ fn group_good(t: &[u8], g: Group) -> bool
 pub fn read_group(file: &[u8], n: usize) -> GroupRead
     ensures { λ r. ⌜ r ≡ groupRead (slotOf (now (file .entry)) n) ⌝ }
 {
-    let none = [0; 64];
+    let none = [0; slot::SLOT_SIZE];
     let t = slot::slot_at(file, &none, n);
     let group = group_of(t);
     GroupRead {

@@ -1,7 +1,7 @@
 // Slot 0.
 ghost use mathlib.Core.Path.{_≡_};
 ghost use lib.ListN.{length};
-ghost use Rattle.slots.specs.Bytes.{slotOf};
+ghost use Rattle.slots.specs.Bytes.{slotSize, slotOf};
 ghost use Rattle.slots.specs.Layout.{temperaturesOf, headerOf};
 use super::numbers;
 use super::slot;
@@ -17,7 +17,7 @@ pub struct Header {
 }
 
 fn temperatures_of(t: &[u8]) -> [i16; 12]
-    requires { ⌜ length (now t) ≡ 64 ⌝ }
+    requires { ⌜ length (now t) ≡ slotSize ⌝ }
     ensures { λ r. ⌜ r ≡ temperaturesOf (now (t .entry)) ⌝ }
 {
     [
@@ -40,7 +40,7 @@ fn temperatures_of(t: &[u8]) -> [i16; 12]
 pub fn read_header(file: &[u8]) -> Header
     ensures { λ r. ⌜ r ≡ headerOf (slotOf (now (file .entry)) 0) ⌝ }
 {
-    let none = [0; 64];
+    let none = [0; slot::SLOT_SIZE];
     let t = slot::slot_at(file, &none, 0);
     Header {
         format: numbers::u16_at(t, 0),

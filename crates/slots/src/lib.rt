@@ -12,6 +12,7 @@ pub use group::GroupRead;
 pub use group::read_group;
 pub use header::Header;
 pub use header::read_header;
+pub use slot::SLOT_SIZE;
 pub use slot::next_of;
 pub use store::Store;
 pub use store::StoreRead;

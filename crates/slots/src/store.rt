@@ -1,7 +1,7 @@
 // A store record's slot.
 ghost use mathlib.Core.Path.{_≡_};
 ghost use lib.ListN.{length};
-ghost use Rattle.slots.specs.Bytes.{slotOf};
+ghost use Rattle.slots.specs.Bytes.{slotSize, slotOf};
 ghost use Rattle.slots.specs.Layout.{bulkOf, handlingOf, handlingGood, standingOf, standingGood, aspirationOf, aspirationGood, readBy, StoreReads};
 ghost use Rattle.slots.specs.declared.store.Store.the-variants as variants;
 use super::numbers;
@@ -25,7 +25,7 @@ pub enum StoreRead {
 }
 
 fn bulk_of(t: &[u8]) -> Bulk
-    requires { ⌜ length (now t) ≡ 64 ⌝ }
+    requires { ⌜ length (now t) ≡ slotSize ⌝ }
     ensures { λ r. ⌜ r ≡ bulkOf (now (t .entry)) ⌝ }
 {
     Bulk {
@@ -41,7 +41,7 @@ fn bulk_of(t: &[u8]) -> Bulk
 }
 
 fn handling_of(t: &[u8]) -> Handling
-    requires { ⌜ length (now t) ≡ 64 ⌝ }
+    requires { ⌜ length (now t) ≡ slotSize ⌝ }
     ensures { λ r. ⌜ r ≡ handlingOf (now (t .entry)) ⌝ }
 {
     Handling {
@@ -51,7 +51,7 @@ fn handling_of(t: &[u8]) -> Handling
 }
 
 fn handling_good(t: &[u8], h: Handling) -> bool
-    requires { ⌜ length (now t) ≡ 64 ⌝ }
+    requires { ⌜ length (now t) ≡ slotSize ⌝ }
     ensures { λ r. ⌜ r ≡ handlingGood (now (t .entry)) h ⌝ }
 {
     stores::handling_in_range(h)
@@ -61,7 +61,7 @@ fn handling_good(t: &[u8], h: Handling) -> bool
 }
 
 fn read_handling(t: &[u8]) -> StoreRead
-    requires { ⌜ length (now t) ≡ 64 ⌝ }
+    requires { ⌜ length (now t) ≡ slotSize ⌝ }
     ensures { λ r. ⌜ r ≡ readBy (handlingGood (now (t .entry)) (handlingOf (now (t .entry)))) (variants.Handling (handlingOf (now (t .entry)))) ⌝ }
 {
     let h = handling_of(t);
@@ -73,7 +73,7 @@ fn read_handling(t: &[u8]) -> StoreRead
 }
 
 fn standing_of(t: &[u8]) -> Standing
-    requires { ⌜ length (now t) ≡ 64 ⌝ }
+    requires { ⌜ length (now t) ≡ slotSize ⌝ }
     ensures { λ r. ⌜ r ≡ standingOf (now (t .entry)) ⌝ }
 {
     Standing {
@@ -83,7 +83,7 @@ fn standing_of(t: &[u8]) -> Standing
 }
 
 fn standing_good(t: &[u8], s: Standing) -> bool
-    requires { ⌜ length (now t) ≡ 64 ⌝ }
+    requires { ⌜ length (now t) ≡ slotSize ⌝ }
     ensures { λ r. ⌜ r ≡ standingGood (now (t .entry)) s ⌝ }
 {
     stores::standing_in_range(s)
@@ -94,7 +94,7 @@ fn standing_good(t: &[u8], s: Standing) -> bool
 }
 
 fn read_standing(t: &[u8]) -> StoreRead
-    requires { ⌜ length (now t) ≡ 64 ⌝ }
+    requires { ⌜ length (now t) ≡ slotSize ⌝ }
     ensures { λ r. ⌜ r ≡ readBy (standingGood (now (t .entry)) (standingOf (now (t .entry)))) (variants.Standing (standingOf (now (t .entry)))) ⌝ }
 {
     let s = standing_of(t);
@@ -106,7 +106,7 @@ fn read_standing(t: &[u8]) -> StoreRead
 }
 
 fn aspiration_of(t: &[u8]) -> Aspiration
-    requires { ⌜ length (now t) ≡ 64 ⌝ }
+    requires { ⌜ length (now t) ≡ slotSize ⌝ }
     ensures { λ r. ⌜ r ≡ aspirationOf (now (t .entry)) ⌝ }
 {
     Aspiration {
@@ -120,14 +120,14 @@ fn aspiration_of(t: &[u8]) -> Aspiration
 }
 
 fn aspiration_good(t: &[u8], a: Aspiration) -> bool
-    requires { ⌜ length (now t) ≡ 64 ⌝ }
+    requires { ⌜ length (now t) ≡ slotSize ⌝ }
     ensures { λ r. ⌜ r ≡ aspirationGood (now (t .entry)) a ⌝ }
 {
     stores::aspiration_in_range(a) & numbers::zero_from(t, 6, 2) & numbers::zero_from(t, 20, 44)
 }
 
 fn read_aspiration(t: &[u8]) -> StoreRead
-    requires { ⌜ length (now t) ≡ 64 ⌝ }
+    requires { ⌜ length (now t) ≡ slotSize ⌝ }
     ensures { λ r. ⌜ r ≡ readBy (aspirationGood (now (t .entry)) (aspirationOf (now (t .entry)))) (variants.Aspiration (aspirationOf (now (t .entry)))) ⌝ }
 {
     let a = aspiration_of(t);
@@ -142,7 +142,7 @@ fn read_aspiration(t: &[u8]) -> StoreRead
 pub fn read_store(file: &[u8], n: usize) -> StoreRead
     ensures { λ r. ⌜ StoreReads (slotOf (now (file .entry)) n) r ⌝ }
 {
-    let none = [0; 64];
+    let none = [0; slot::SLOT_SIZE];
     let t = slot::slot_at(file, &none, n);
     let kind = t[2];
     match kind {

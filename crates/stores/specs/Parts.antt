@@ -30,8 +30,8 @@ unfoldable pub aspirationParts : Aspiration → ℕ
 aspirationParts a = a .concentration * a .flow * (10000 - a .capture)
 
 -- exact units in a 10,000,000,000,000,000th of a tonne
-abbrev tonneUnits : ℕ
-tonneUnits = tonneParts / 10000000000000000
+abbrev massUnits : ℕ
+massUnits = tonneParts / 10000000000000000
 
 -- of a 6,000,000,000,000th of a gram per second those of the peak and of the year, in which it is 36,792 such parts of a tonne; and of a 10,000,000,000th of a gram
 -- per second those of the peak and of an hour, in which it is 3,600
@@ -39,13 +39,13 @@ abbrev pub bulkUnits : ℕ
 bulkUnits = gramParts / 6000000000000
 
 abbrev pub bulkYearUnits : ℕ
-bulkYearUnits = 36792 * tonneUnits
+bulkYearUnits = 36792 * massUnits
 
 abbrev pub aspirationUnits : ℕ
 aspirationUnits = gramParts / 10000000000
 
 abbrev pub aspirationHourUnits : ℕ
-aspirationHourUnits = 3600 * tonneUnits
+aspirationHourUnits = 3600 * massUnits
 
 -- an answer by its sums
 abbrev pub answerOf : ℕ → AnnualSum → PeakSum → StoreAnswer

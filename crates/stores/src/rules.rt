@@ -75,18 +75,18 @@ fn answer(dust: u8, annual: AnnualSum, peak: PeakSum) -> StoreAnswer
 }
 
 // Exact units in a 10,000,000,000,000,000th of a tonne: 2,000.
-const TONNE_UNITS: u32 = (AnnualSum::DENOMINATOR / 10_000_000_000) as u32;
+const MASS_UNITS: u32 = (AnnualSum::DENOMINATOR / 10_000_000_000) as u32;
 
 // Of a 6,000,000,000,000th of a gram per second, handled or standing, the exact units of the peak, 120, and of the year: 31.536 times 0.7 of it is 36,792 times a
 // 10,000,000,000,000,000th of a tonne.
 const BULK_UNITS: u32 = (PeakSum::DENOMINATOR / 600_000) as u32;
 
-const BULK_YEAR_UNITS: u32 = 36_792 * TONNE_UNITS;
+const BULK_YEAR_UNITS: u32 = 36_792 * MASS_UNITS;
 
 // Of a 10,000,000,000th of a gram per second, aspirated, those of the peak, 72,000, and of an hour: 0.0036 of it is 3,600 times a 10,000,000,000,000,000th of a tonne.
 const ASPIRATION_UNITS: u32 = (PeakSum::DENOMINATOR / 1_000) as u32;
 
-const ASPIRATION_HOUR_UNITS: u32 = 3_600 * TONNE_UNITS;
+const ASPIRATION_HOUR_UNITS: u32 = 3_600 * MASS_UNITS;
 
 // A peak in 6,000,000,000,000ths of a gram per second.
 fn bulk_answer(dust: u8, parts: u64) -> StoreAnswer

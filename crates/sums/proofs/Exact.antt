@@ -7,12 +7,12 @@ use native.Mathlib.Omega.{arith}
 use lib.Dec.{lit<}
 use Rattle.sums.specs.Choice.{sumTo}
 use Rattle.sums.specs.Fraction.{_over_}
-use Rattle.sums.specs.Figures.{annualDenominator, peakDenominator, unitsIn, wordsOf, nearest}
-use Rattle.sums.specs.declared.mixed.Mixed.{Mixed}
+use Rattle.sums.specs.Figures.{annualDenominator, peakDenominator, unitsIn, wordsOf, partsIn, mixedOf, nearest}
+use Rattle.sums.specs.declared.words.Words.{Words}
 use Rattle.sums.proofs.Choices.{sumTo-bound}
-use Rattle.sums.proofs.Wrapping.{words-plus, words-exact}
+use Rattle.sums.proofs.Wrapping.{mixed-exact, words-plus, words-exact}
 
--- no source gives a code more than this, in exact units: 150,000,000 tonnes a year, and 27,000,000 grams per second
+-- no source gives a code more than this, in exact units: 150,000,000 tonnes a year, and 27,777,777 grams per second
 abbrev pub annualMost : ℕ
 annualMost = 3000000000000000000000000000
 
@@ -27,7 +27,7 @@ abbrev pub filesMost : ℕ
 filesMost = 64
 
 -- n terms, added one by one
-unfoldable pub addedTo : ℕ → (ℕ → ℕ) → Mixed
+unfoldable pub addedTo : ℕ → (ℕ → ℕ) → Words
 addedTo zero f = wordsOf 0
 addedTo (suc n) f = wordsOf (unitsIn (addedTo n f) + unitsIn (wordsOf (f n)))
 
@@ -48,6 +48,10 @@ module _ (d : ℕ) (pos : 0 < d) (word : d ≤ 2 ^ 64) where
 
   pub figure-exact : (x : ℕ) → x + d < 2 ^ 64 * d → nearest (unitsIn (wordsOf x) over d) % 2 ^ 64 ≡ nearest (x over d)
   figure-exact x h = rw (sum-exact x h) (mod-eq-of-lt (figure-fits d pos x h))
+
+  -- nor by the printed units
+  pub printed-exact : (x : ℕ) → x + d < 2 ^ 64 * d → partsIn d (mixedOf d (unitsIn (wordsOf x))) ≡ unitsIn (wordsOf x)
+  printed-exact x h = let k : x < 2 ^ 64 * d = omega arith in rw (sum-exact x h) (mixed-exact d pos x k)
 
   module _ (f : ℕ → ℕ) where
     added : (n : ℕ) → addedTo n f ≡ wordsOf (sumTo n f)

@@ -7,6 +7,7 @@ use native.Mathlib.Omega.{arith}
 use lib.Dec.{lit<}
 use Rattle.sums.specs.Figures.{partsIn, mixedOf, unitsIn, wordsOf}
 use Rattle.sums.specs.declared.mixed.Mixed.{Mixed}
+use Rattle.sums.specs.declared.words.Words.{Words}
 
 -- a mixed number by its fields
 the-mixed : {s t : Mixed} → s .whole ≡ t .whole → s .part ≡ t .part → s ≡ t
@@ -42,16 +43,22 @@ module _ (d : ℕ) (pos : 0 < d) where
   mixed-times x k = sym (turns _ (x / d / 2 ^ 64 * k)) ∙ ap (mixedOf d) (omega (arith, ap (λ (n : ℕ). n * k) (held x)))
 
   -- below 2 ^ 64 units nothing is dropped
-  mixed-exact : (x : ℕ) → x < 2 ^ 64 * d → partsIn d (mixedOf d x) ≡ x
+  pub mixed-exact : (x : ℕ) → x < 2 ^ 64 * d → partsIn d (mixedOf d x) ≡ x
   unfolding mixedOf partsIn
   mixed-exact x h = rw (mod-eq-of-lt (div-lt-iff-lt-mul pos .1 h)) (div-add-mod' x d)
 
--- of two words
+-- two words are a mixed number over 2 ^ 64
+abbrev pub inWords : Mixed → Words
+inWords m = record { high = m .whole; low = m .part }
+
 pub words-plus : (a b : ℕ) → wordsOf (unitsIn (wordsOf a) + unitsIn (wordsOf b)) ≡ wordsOf (a + b)
-words-plus = mixed-plus (2 ^ 64) (lit< tt)
+unfolding wordsOf unitsIn mixedOf partsIn
+words-plus a b = ap inWords (mixed-plus (2 ^ 64) (lit< tt) a b)
 
 pub words-times : (x k : ℕ) → wordsOf (unitsIn (wordsOf x) * k) ≡ wordsOf (x * k)
-words-times = mixed-times (2 ^ 64) (lit< tt)
+unfolding wordsOf unitsIn mixedOf partsIn
+words-times x k = ap inWords (mixed-times (2 ^ 64) (lit< tt) x k)
 
 pub words-exact : (x : ℕ) → x < 2 ^ 64 * 2 ^ 64 → unitsIn (wordsOf x) ≡ x
+unfolding wordsOf unitsIn mixedOf partsIn
 words-exact = mixed-exact (2 ^ 64) (lit< tt)

@@ -2,20 +2,13 @@
 use Prim.Native.Nat.{ℕ, _+_, _*_, _/_, _%_, _^_}
 use Rattle.sums.specs.Fraction.{Frac, _over_, partsOf}
 use Rattle.sums.specs.declared.mixed.Mixed.{Mixed}
+use Rattle.sums.specs.declared.words.Words.{Words}
 use Rattle.sums.specs.declared.annual.AnnualSum.{AnnualSum}
 use Rattle.sums.specs.declared.peak.PeakSum.{PeakSum}
 
 -- "The figure is the largest whole number of its units that isn't above the exact sum plus half a unit": of x units
 unfoldable pub nearest : Frac → ℕ
 nearest x = (2 * x .num + x .den) / (2 * x .den)
-
--- a mixed number over d counts so many d-ths of a unit
-unfoldable pub partsIn : ℕ → Mixed → ℕ
-partsIn d m = m .whole * d + m .part
-
--- the mixed number of x d-ths: whole units, of which it holds 64 bits, and what is left of one
-unfoldable pub mixedOf : ℕ → ℕ → Mixed
-mixedOf d x = record { whole = x / d % 2 ^ 64; part = x % d }
 
 -- "Annual: whole millionths of a tonne. Peak: whole ten-millionths of a gram per second. Every exact unit has one denominator":
 -- the exact units in a millionth of a tonne, and in a ten-millionth of a gram per second
@@ -32,12 +25,12 @@ tonneParts = 1000000 * annualDenominator
 abbrev pub gramParts : ℕ
 gramParts = 10000000 * peakDenominator
 
--- "Sums can pass 64 bits": a sum is a whole number of exact units in two words of 64 bits, which are a mixed number over 2 ^ 64
-abbrev pub unitsIn : Mixed → ℕ
-unitsIn m = partsIn (2 ^ 64) m
+-- "Sums can pass 64 bits": a sum is a whole number of exact units in two words of 64 bits
+unfoldable pub unitsIn : Words → ℕ
+unitsIn w = w .high * 2 ^ 64 + w .low
 
-abbrev pub wordsOf : ℕ → Mixed
-wordsOf x = mixedOf (2 ^ 64) x
+unfoldable pub wordsOf : ℕ → Words
+wordsOf x = record { high = x / 2 ^ 64 % 2 ^ 64; low = x % 2 ^ 64 }
 
 -- the exact units of a sum, and the sum of so many
 abbrev pub annualParts : AnnualSum → ℕ
@@ -52,7 +45,14 @@ peakParts s = unitsIn (s .0)
 abbrev pub peakOf : ℕ → PeakSum
 peakOf x = record { 0 = wordsOf x }
 
--- a sum as whole printed units, of which it has 64 bits, and what is left of one over the denominator
+-- whole units, of which there are 64 bits, and what is left of one: so many d-ths, and those of x d-ths
+unfoldable pub partsIn : ℕ → Mixed → ℕ
+partsIn d m = m .whole * d + m .part
+
+unfoldable pub mixedOf : ℕ → ℕ → Mixed
+mixedOf d x = record { whole = x / d % 2 ^ 64; part = x % d }
+
+-- a sum in printed units
 abbrev pub annualPrinted : AnnualSum → Mixed
 annualPrinted s = mixedOf annualDenominator (annualParts s)
 

@@ -3,9 +3,10 @@ ghost use mathlib.Core.Path.{_≡_};
 ghost use Prim.Native.Nat.{_+_, _*_, _%_, _^_};
 ghost use Rattle.sums.specs.Figures.{annualOf, annualParts, annualPrinted, annualFigure};
 use super::mixed::Mixed;
+use super::words::Words;
 
-// Millionths of a tonne.
-pub struct AnnualSum(pub Mixed);
+// So many exact units.
+pub struct AnnualSum(pub Words);
 
 impl AnnualSum {
     // Exact units in a millionth of a tonne.
@@ -20,7 +21,7 @@ impl AnnualSum {
     pub fn of(x: u64) -> Self
         ensures { λ r. ⌜ r ≡ annualOf x ⌝ }
     {
-        Self(Mixed::of(x))
+        Self(Words::of(x))
     }
 
     pub fn plus(self, other: Self) -> Self

@@ -3,6 +3,7 @@ pub mod annual;
 pub mod answer;
 pub mod mixed;
 pub mod peak;
+pub mod words;
 
 pub use annual::AnnualSum;
 pub use answer::Emission;

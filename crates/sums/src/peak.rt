@@ -3,9 +3,10 @@ ghost use mathlib.Core.Path.{_≡_};
 ghost use Prim.Native.Nat.{_+_, _*_, _%_, _^_};
 ghost use Rattle.sums.specs.Figures.{peakOf, peakParts, peakPrinted, peakFigure};
 use super::mixed::Mixed;
+use super::words::Words;
 
-// Ten-millionths of a gram per second.
-pub struct PeakSum(pub Mixed);
+// So many exact units.
+pub struct PeakSum(pub Words);
 
 impl PeakSum {
     // Exact units in a ten-millionth of a gram per second.
@@ -20,7 +21,7 @@ impl PeakSum {
     pub fn of(x: u64) -> Self
         ensures { λ r. ⌜ r ≡ peakOf x ⌝ }
     {
-        Self(Mixed::of(x))
+        Self(Words::of(x))
     }
 
     pub fn plus(self, other: Self) -> Self

@@ -11,7 +11,7 @@ use borrow.Author.Tests.{eqb-true, eqb-false}
 use Rattle.sums.specs.Choice.{if_then_else}
 use Rattle.sums.specs.Figures.{unitsIn, wordsOf}
 use Rattle.sums.specs.Answer.{noEmission}
-use Rattle.sums.specs.declared.mixed.Mixed.{Mixed}
+use Rattle.sums.specs.declared.words.Words.{Words}
 use Rattle.sums.specs.declared.answer.Emission.{Emission}
 use Rattle.sums.proofs.Choices.{both}
 use Rattle.sums.proofs.Wrapping.{words-plus}
@@ -19,24 +19,24 @@ use Rattle.slot_file.specs.Codes.{codes, codeCount, placeOf}
 use Rattle.totals.specs.Totals.{columnCount, numberCount, sumPlace, wordsAt, withWords, plusAt, plusIn, plusToIn}
 use Rattle.totals.proofs.Places.{at-place}
 
-module _ (l : List ℕ) (i : ℕ) (m : Mixed) where
+module _ (l : List ℕ) (i : ℕ) (m : Words) where
   abbrev first : List ℕ
-  first = set l (2 * i) (m .part)
+  first = set l (2 * i) (m .low)
 
   kept-length : length (withWords l i m) ≡ length l
-  kept-length = length-set first (2 * i + 1) (m .whole) ∙ length-set l (2 * i) (m .part)
+  kept-length = length-set first (2 * i + 1) (m .high) ∙ length-set l (2 * i) (m .low)
 
   here : 2 * i + 1 < length l → wordsAt (withWords l i m) i ≡ m
   here h =
-      let w = getD-set-same first (2 * i + 1) (m .whole) 0 (omega (arith, h, length-set l (2 * i) (m .part))) in
-      let p = getD-set-other first (2 * i + 1) (2 * i) (m .whole) 0 (λ e. omega (arith, e)) ∙ getD-set-same l (2 * i) (m .part) 0 (omega (arith, h)) in
-      λ t. record { whole = w t; part = p t }
+      let w = getD-set-same first (2 * i + 1) (m .high) 0 (omega (arith, h, length-set l (2 * i) (m .low))) in
+      let p = getD-set-other first (2 * i + 1) (2 * i) (m .high) 0 (λ e. omega (arith, e)) ∙ getD-set-same l (2 * i) (m .low) 0 (omega (arith, h)) in
+      λ t. record { high = w t; low = p t }
 
   there : (j : ℕ) → (j ≡ i → ⊥) → wordsAt (withWords l i m) j ≡ wordsAt l j
   there j n =
-      let w = getD-set-other first (2 * i + 1) (2 * j + 1) (m .whole) 0 (λ e. n (omega (arith, e))) ∙ getD-set-other l (2 * i) (2 * j + 1) (m .part) 0 (λ e. omega (arith, e)) in
-      let p = getD-set-other first (2 * i + 1) (2 * j) (m .whole) 0 (λ e. omega (arith, e)) ∙ getD-set-other l (2 * i) (2 * j) (m .part) 0 (λ e. n (omega (arith, e))) in
-      λ t. record { whole = w t; part = p t }
+      let w = getD-set-other first (2 * i + 1) (2 * j + 1) (m .high) 0 (λ e. n (omega (arith, e))) ∙ getD-set-other l (2 * i) (2 * j + 1) (m .low) 0 (λ e. omega (arith, e)) in
+      let p = getD-set-other first (2 * i + 1) (2 * j) (m .high) 0 (λ e. omega (arith, e)) ∙ getD-set-other l (2 * i) (2 * j) (m .low) 0 (λ e. n (omega (arith, e))) in
+      λ t. record { high = w t; low = p t }
 
 pub plus-length : (l : List ℕ) (i x : ℕ) → length (plusAt l i x) ≡ length l
 unfolding plusAt
@@ -60,14 +60,14 @@ column-more g l q c y w h k s p b = go (eqb c (getD codes p 0)) refl
     i : ℕ
     i = sumPlace q (placeOf codes c)
 
-    m : Mixed
+    m : Words
     m = wordsOf (unitsIn (wordsAt l i) + unitsIn (wordsOf y))
 
     go : (t : Bool) → eqb c (getD codes p 0) ≡ t → wordsAt (withWords l i m) (sumPlace q p) ≡ wordsOf (g (getD codes p 0) + if_then_else t y 0)
     go true f =
         let o = eqb-true p (placeOf codes c) (sym (at-place c p b) ∙ f) in
         ap (λ (j : ℕ). wordsAt (withWords l i m) (sumPlace q j)) o ∙ here l i m (omega (arith, w, h, k))
-        ∙ ap (λ (n : Mixed). wordsOf (unitsIn n + unitsIn (wordsOf y))) (s (placeOf codes c) k)
+        ∙ ap (λ (n : Words). wordsOf (unitsIn n + unitsIn (wordsOf y))) (s (placeOf codes c) k)
         ∙ words-plus (g (getD codes (placeOf codes c) 0)) y
         ∙ ap (λ (j : ℕ). wordsOf (g (getD codes j 0) + y)) (sym o)
     go false f =

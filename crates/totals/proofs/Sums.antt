@@ -4,12 +4,12 @@ use native.Mathlib.Nat.{le-refl}
 use native.Mathlib.Omega.{arith}
 use mathlib.Core.Path.{_≡_, refl, ap, sym, subst, _∙_}
 use mathlib.Core.List.{List}
-use lib.Dec.{eqb, ltb, lit<}
+use lib.Dec.{eqb, ltb}
 use lib.ListN.{getD, length, replicate}
 use borrow.Author.Tests.{eq-eqb, ltb-true, ltb-false}
 use Rattle.sums.specs.Choice.{if_then_else, sumTo, listTo}
 use Rattle.sums.specs.Fraction.{partsOf}
-use Rattle.sums.specs.Figures.{mixedOf, tonneParts, gramParts, unitsIn, wordsOf}
+use Rattle.sums.specs.Figures.{tonneParts, gramParts, unitsIn, wordsOf}
 use Rattle.sums.specs.Answer.{Contribution, emitted, noEmission}
 use Rattle.sums.specs.declared.answer.Emission.{Emission}
 use Rattle.sums.proofs.Choices.{yes, cases, sumTo-front, listTo-at}
@@ -30,8 +30,8 @@ zeros (suc n) zero = refl
 zeros (suc n) (suc i) = zeros n i
 
 pub no-sums : Sums (λ (q c : ℕ). 0) noNumbers
-unfolding mixedOf
-no-sums = record { room = refl; sums-are = λ q p h k. (λ t. record { whole = zeros numberCount (2 * sumPlace q p + 1) t; part = zeros numberCount (2 * sumPlace q p) t }) }
+unfolding wordsOf
+no-sums = record { room = refl; sums-are = λ q p h k. (λ t. record { high = zeros numberCount (2 * sumPlace q p + 1) t; low = zeros numberCount (2 * sumPlace q p) t }) }
 
 -- what a choice by length and place comes to
 chosen : (P : List ℕ → Type 0) (l m : List ℕ) (p : ℕ) → length l ≡ numberCount → (p < codeCount → P m) → (codeCount ≤ p → P l)

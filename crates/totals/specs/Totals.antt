@@ -8,7 +8,7 @@ use lib.ListN.{getD, set, length, replicate}
 use Rattle.sums.specs.Choice.{if_then_else, listTo}
 use Rattle.sums.specs.Figures.{unitsIn, wordsOf, annualFigure, peakFigure}
 use Rattle.sums.specs.Answer.{Contribution, noEmission}
-use Rattle.sums.specs.declared.mixed.Mixed.{Mixed}
+use Rattle.sums.specs.declared.words.Words.{Words}
 use Rattle.sums.specs.declared.answer.Emission.{Emission}
 use Rattle.slot_file.specs.Codes.{codes, codeCount, placeOf}
 use Rattle.slot_file.specs.Parts.{annualTo, peakTo}
@@ -29,11 +29,11 @@ sumPlace q p = codeCount * q + p
 abbrev pub numberCount : ℕ
 numberCount = 2 * sumCount
 
-abbrev pub wordsAt : List ℕ → ℕ → Mixed
-wordsAt l i = record { whole = getD l (2 * i + 1) 0; part = getD l (2 * i) 0 }
+abbrev pub wordsAt : List ℕ → ℕ → Words
+wordsAt l i = record { high = getD l (2 * i + 1) 0; low = getD l (2 * i) 0 }
 
-abbrev pub withWords : List ℕ → ℕ → Mixed → List ℕ
-withWords l i m = set (set l (2 * i) (m .part)) (2 * i + 1) (m .whole)
+abbrev pub withWords : List ℕ → ℕ → Words → List ℕ
+withWords l i m = set (set l (2 * i) (m .low)) (2 * i + 1) (m .high)
 
 -- x units more in the sum at place i
 unfoldable pub plusAt : List ℕ → ℕ → ℕ → List ℕ

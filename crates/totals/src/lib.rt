@@ -11,7 +11,7 @@ use slot_file::COUNT;
 use sums::AnnualSum;
 use sums::Emission;
 use sums::PeakSum;
-use sums::mixed::Mixed;
+use sums::words::Words;
 use vehicles::EMISSIONS;
 
 // The columns.
@@ -22,7 +22,7 @@ const PEAK: usize = 1;
 const COLUMNS: usize = 2;
 
 // Two words for each sum.
-pub const NUMBERS: usize = 2 * COLUMNS * COUNT;
+const NUMBERS: usize = 2 * COLUMNS * COUNT;
 
 // Millionths of a tonne, and ten-millionths of a gram per second.
 pub struct Figures {
@@ -31,26 +31,26 @@ pub struct Figures {
 }
 
 // The sum of the code at a place, in a column.
-fn sum_at(totals: &[u64], column: usize, place: usize) -> Mixed
+fn sum_at(totals: &[u64], column: usize, place: usize) -> Words
     requires { ⌜ (length (now totals) ≡ numberCount) × (column < columnCount) × (place < codeCount) ⌝ }
     ensures { λ r. ⌜ r ≡ wordsAt (now (totals .entry)) (sumPlace column place) ⌝ }
 {
     let at = 2 * (COUNT * column + place);
-    Mixed {
-        whole: totals[at + 1],
-        part: totals[at],
+    Words {
+        high: totals[at + 1],
+        low: totals[at],
     }
 }
 
 // Adds to it.
-fn add_at(totals: &mut [u64], column: usize, place: usize, x: Mixed)
+fn add_at(totals: &mut [u64], column: usize, place: usize, x: Words)
     requires { ⌜ (length (now totals) ≡ numberCount) × (column < columnCount) × (place < codeCount) ⌝ }
     ensures { λ _. ⌜ now (totals .exit) ≡ plusAt (now (totals .entry)) (sumPlace column place) (unitsIn x) ⌝ }
 {
     let sum = sum_at(totals, column, place).plus(x);
     let at = 2 * (COUNT * column + place);
-    totals[at] = sum.part;
-    totals[at + 1] = sum.whole;
+    totals[at] = sum.low;
+    totals[at + 1] = sum.high;
 }
 
 // The sums of nothing.

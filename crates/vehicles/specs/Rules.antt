@@ -10,7 +10,7 @@ use Rattle.sums.specs.Choice.{if_then_else, allOf, listTo}
 use Rattle.sums.specs.Fraction.{Frac, _over_, whole, _⊙_, _⊞_, _per_, totalTo}
 use Rattle.sums.specs.Answer.{Contribution, contribution, accepted, refusedBy, emitted, noEmission}
 use Rattle.sums.specs.declared.answer.Emission.{Emission}
-use Rattle.vehicles.specs.Fields.{minus, noMinute, noKilometre, noCoefficients, groupInRange, temperaturesInRange, allInRange, allZero}
+use Rattle.vehicles.specs.Fields.{pollutantCount, minus, noMinute, noKilometre, noCoefficients, groupInRange, temperaturesInRange, allInRange, allZero}
 use Rattle.vehicles.specs.declared.group.Distances.{Distances}
 use Rattle.vehicles.specs.declared.group.Group.{Group}
 use Rattle.vehicles.specs.declared.group.Coefficients.{Coefficients}
@@ -127,7 +127,7 @@ emissionOf g ts k p = emitted (contributionOf g ts k p)
 
 -- how many emissions a group's answer holds: one for each pollutant
 abbrev pub emissionCount : ℕ
-emissionCount = 6
+emissionCount = pollutantCount
 
 -- of each pollutant, with its own coefficients
 unfoldable pub emissionsOf : Group → List ℤ → List Coefficients → List Emission

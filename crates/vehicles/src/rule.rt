@@ -24,7 +24,7 @@ use sums::PeakSum;
 use sums::Verdict;
 
 // What a group's answer holds: one for each pollutant.
-pub const EMISSIONS: usize = 6;
+pub const EMISSIONS: usize = POLLUTANTS;
 
 pub struct GroupAnswer {
     pub verdict: Verdict,

@@ -13,7 +13,7 @@ use Rattle.sums.specs.Fraction.{Frac, _over_, whole, _⊙_, _≈_, partsOf}
 use Rattle.sums.specs.Figures as sum
 use Rattle.sums.specs.Figures.{annualDenominator, peakDenominator, unitsIn, wordsOf, nearest, annualOf, peakOf}
 use Rattle.sums.specs.Answer.{Contribution}
-use Rattle.sums.specs.declared.mixed.Mixed.{Mixed}
+use Rattle.sums.specs.declared.words.Words.{Words}
 use Rattle.sums.proofs.Choices.{yes, listTo-same}
 use Rattle.sums.proofs.Exact.{annualMost, peakMost, sourcesMost, figure-exact}
 use Rattle.sums.proofs.Figure.{nearest-same}
@@ -96,7 +96,7 @@ module _ (s : List ℕ) (b : Chains) where
     file-figures l h =
         let xs = contributions (inventoryAt s b) in
         let a = listTo-same codeCount (annualIn l) (λ (p : ℕ). annualFigure xs (getD codes p 0))
-        (λ p k. ap (λ (m : Mixed). sum.annualFigure (record { 0 = m }) % 2 ^ 64) (h .sums-are 0 p (lit< tt) k) ∙ annual-figured (getD codes p 0)) in
+        (λ p k. ap (λ (m : Words). sum.annualFigure (record { 0 = m }) % 2 ^ 64) (h .sums-are 0 p (lit< tt) k) ∙ annual-figured (getD codes p 0)) in
         let p = listTo-same codeCount (peakIn l) (λ (p : ℕ). peakFigure xs (getD codes p 0))
-        (λ p k. ap (λ (m : Mixed). sum.peakFigure (record { 0 = m }) % 2 ^ 64) (h .sums-are 1 p (lit< tt) k) ∙ peak-figured (getD codes p 0)) in
+        (λ p k. ap (λ (m : Words). sum.peakFigure (record { 0 = m }) % 2 ^ 64) (h .sums-are 1 p (lit< tt) k) ∙ peak-figured (getD codes p 0)) in
         sym (yes _ _ _ _ (eq-eqb _ _ (h .room)) refl) ∙ (λ i. record { annual = a i; peak = p i })

@@ -2,7 +2,7 @@
 use Prim.Native.Nat.{ℕ, _+_}
 use mathlib.Core.Path.{_≡_}
 use mathlib.Core.Bool.{Bool, true}
-use mathlib.Core.List.{List, [], _++_}
+use mathlib.Core.List.{List, []}
 use lib.ListN.{length}
 use Rattle.sums.specs.Choice.{if_then_else}
 use Rattle.sums.specs.Answer.{Contribution, noEmission}
@@ -89,7 +89,7 @@ pub record StoresBegin (s : List ℕ) (summing : Bool) (sources reached : List B
   pub header : h ≡ headerAt s
   pub groups : GroupsEnded s summing sources reached totals (start .counts)
 
--- the groups of c and the store records ss are passed, and the store chain goes on at the link
+-- the groups and the store records of c are passed, and the store chain goes on at the link
 pub record StoresPassed (s : List ℕ) (summing : Bool) (sources reached : List Bool) (totals : List ℕ) (holder link : ℕ) (counts : Counts) : Type 0 where
   pub c : Chains
   pub group-chain : Groups s c 0

@@ -51,7 +51,7 @@ fn walk_file(file: &[u8], totals: &mut [u64], summing: bool) -> Walked
     }
     let counts = both.counts;
     Walked {
-        verdict: questions::ask_reached(&reached, file.len() / 64),
+        verdict: questions::ask_reached(&reached, file.len() / slots::SLOT_SIZE),
         counts,
     }
 }

@@ -1,9 +1,9 @@
 // The group chain.
 ghost use mathlib.Core.Path.{_≡_};
-ghost use Prim.Native.Nat.{_*_, _≤_};
+ghost use Prim.Native.Nat.{_≤_};
 ghost use lib.ListN.{length};
 ghost use Rattle.vehicles.specs.Rules.{groupAnswer};
-ghost use Rattle.slot_file.specs.Questions.{mostSlots};
+ghost use Rattle.slot_file.specs.Questions.{mostBytes};
 ghost use Rattle.walk.specs.Steps.{GroupStepped};
 ghost use Rattle.walk.specs.Walked.{plusGroup, GroupsBegin, GroupsWalked};
 use super::questions;
@@ -33,7 +33,7 @@ fn step_group(
     holder: u16,
     link: u16,
 ) -> GroupStep
-    requires { ⌜ (length (now file) ≤ 64 * mostSlots) × (link ≡ 0 → ⊥) ⌝ }
+    requires { ⌜ (length (now file) ≤ mostBytes) × (link ≡ 0 → ⊥) ⌝ }
     ensures { λ r. ⌜ GroupStepped (now (file .entry)) holder link (now (sources .entry)) (now (sources .exit)) (now (reached .entry)) (now (reached .exit)) r ⌝ }
 {
     let k = link as usize;

@@ -1,13 +1,14 @@
 // The questions in order: of a list of them, the number and the slot of the first that is answered no, or 0 and 0.
 ghost use mathlib.Core.Path.{_≡_};
-ghost use Prim.Native.Nat.{_*_, _≤_};
+ghost use Prim.Native.Nat.{_≤_};
 ghost use lib.ListN.{length};
 ghost use Rattle.slot_file.specs.Sources.{headerAt};
-ghost use Rattle.slot_file.specs.Questions.{mostSlots, headAsks};
+ghost use Rattle.slot_file.specs.Questions.{mostSlots, mostBytes, headAsks};
 ghost use Rattle.walk.specs.Told.{Told, LinkTold, RowTold, SootTold, ReachTold};
 use slot_file::MOST_SLOTS;
 use slots::CoefficientsRead;
 use slots::Header;
+use slots::SLOT_SIZE;
 use sums::Verdict;
 use vehicles::Coefficients;
 use vehicles::Group;
@@ -26,7 +27,7 @@ pub(crate) fn refuse(number: u8, slot: u16) -> Verdict
 }
 
 // The bytes of a file at most.
-const MOST_BYTES: usize = 64 * MOST_SLOTS;
+const MOST_BYTES: usize = SLOT_SIZE * MOST_SLOTS;
 
 // Questions 1 to 5, of the file and its slot 0.
 pub(crate) fn ask_head(file: &[u8], h: Header) -> Verdict
@@ -34,14 +35,14 @@ pub(crate) fn ask_head(file: &[u8], h: Header) -> Verdict
     ensures { λ r. ⌜ Told (headAsks (now (file .entry))) r ⌝ }
 {
     let n = file.len();
-    let whole = (64 <= n) & (n <= MOST_BYTES) & (n % 64 == 0);
+    let whole = (SLOT_SIZE <= n) & (n <= MOST_BYTES) & (n % SLOT_SIZE == 0);
     if !whole {
         return refuse(1, 0);
     }
     if h.format != 1 {
         return refuse(2, 0);
     }
-    if h.count as usize != n / 64 {
+    if h.count as usize != n / SLOT_SIZE {
         return refuse(3, 0);
     }
     if !h.rest {
@@ -62,11 +63,11 @@ pub(crate) fn ask_link(
     link: u16,
     number: u8,
 ) -> Verdict
-    requires { ⌜ length (now file) ≤ 64 * mostSlots ⌝ }
+    requires { ⌜ length (now file) ≤ mostBytes ⌝ }
     ensures { λ r. ⌜ LinkTold (now (file .entry)) (now (sources .entry)) holder link number r ⌝ }
 {
     let k = link as usize;
-    if file.len() / 64 <= k {
+    if file.len() / SLOT_SIZE <= k {
         return refuse(6, holder);
     }
     if sources[k] {
@@ -94,7 +95,7 @@ pub(crate) fn ask_row(
     if link == 0 {
         return refuse(10, holder);
     }
-    if file.len() / 64 <= link as usize {
+    if file.len() / SLOT_SIZE <= link as usize {
         return refuse(6, holder);
     }
     if row.number == 8 {

@@ -1,9 +1,9 @@
 // The store chain.
 ghost use mathlib.Core.Path.{_≡_};
-ghost use Prim.Native.Nat.{_*_, _≤_};
+ghost use Prim.Native.Nat.{_≤_};
 ghost use lib.ListN.{length};
 ghost use Rattle.slots.specs.Layout.{readNumber};
-ghost use Rattle.slot_file.specs.Questions.{mostSlots};
+ghost use Rattle.slot_file.specs.Questions.{mostBytes};
 ghost use Rattle.walk.specs.Steps.{StoreStepped};
 ghost use Rattle.walk.specs.Walked.{recordEmission, storeEmission, plusStore, StoresBegin, StoresWalked};
 use super::questions;
@@ -40,7 +40,7 @@ fn step_store(
     holder: u16,
     link: u16,
 ) -> StoreStep
-    requires { ⌜ (length (now file) ≤ 64 * mostSlots) × (link ≡ 0 → ⊥) ⌝ }
+    requires { ⌜ (length (now file) ≤ mostBytes) × (link ≡ 0 → ⊥) ⌝ }
     ensures { λ r. ⌜ StoreStepped (now (file .entry)) holder link (now (sources .entry)) (now (sources .exit)) (now (reached .entry)) (now (reached .exit)) r ⌝ }
 {
     let k = link as usize;

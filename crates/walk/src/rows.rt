@@ -1,10 +1,10 @@
 // A group's coefficient slots.
 ghost use mathlib.Core.Path.{_≡_};
-ghost use Prim.Native.Nat.{_*_, _≤_};
+ghost use Prim.Native.Nat.{_≤_};
 ghost use lib.ListN.{length};
 ghost use Rattle.slots.specs.Bytes.{slotOf};
 ghost use Rattle.slots.specs.Layout.{groupRead, coefficientsRead};
-ghost use Rattle.slot_file.specs.Questions.{mostSlots};
+ghost use Rattle.slot_file.specs.Questions.{mostBytes};
 ghost use Rattle.walk.specs.Rows.{RowsRead};
 use super::questions;
 use slot_file::MOST_SLOTS;
@@ -50,7 +50,7 @@ pub(crate) fn no_rows() -> [Coefficients; POLLUTANTS] {
 
 // The coefficient links of the group g, from `first` on; each slot is marked as reached.
 pub(crate) fn read_rows(file: &[u8], reached: &mut [bool; MOST_SLOTS], g: u16, first: u16) -> Rows
-    requires { ⌜ (length (now file) ≤ 64 * mostSlots) × (first ≡ groupRead (slotOf (now file) g) .first) ⌝ }
+    requires { ⌜ (length (now file) ≤ mostBytes) × (first ≡ groupRead (slotOf (now file) g) .first) ⌝ }
     ensures { λ r. ⌜ RowsRead (now (file .entry)) g (now (reached .entry)) (now (reached .exit)) r ⌝ }
 {
     let mut coefficients = no_rows();

@@ -123,7 +123,7 @@ mod tests {
         let [given] = read_one(&GIVEN).unwrap();
         assert_eq!(given.code, 152);
         assert_eq!(given.annual.numerator(), 60_000_000_000_007);
-        assert_eq!(given.peak.numerator(), 1_800_000_009);
+        assert_eq!(given.peak.numerator(), 360_000_009);
     }
 
     #[test]

@@ -121,7 +121,7 @@ fn denominators() {
     assert_eq!(year.denominator, 20_000_000_000_000);
     assert_eq!(ANNUAL_DENOMINATOR, 20_000_000_000_000);
     let rate = standing(&SLAG).unwrap().peak;
-    assert_eq!((rate.whole, rate.part), (0, 180_000_000));
+    assert_eq!((rate.whole, rate.part), (0, 36_000_000));
     assert_eq!(rate.denominator, 72_000_000);
     assert_eq!(PEAK_DENOMINATOR, 72_000_000);
 }

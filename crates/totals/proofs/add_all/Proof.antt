@@ -5,7 +5,7 @@ use native.Mathlib.Numerals.{add-one}
 use mathlib.Core.Path.{_≡_, _∙_}
 use Prim.Native.Nat.{_≤_, _-_}
 use lib.ListN.{length}
-use Rattle.sums.specs.Figures.{mixedOf}
+use Rattle.sums.specs.Figures.{wordsOf}
 use Rattle.vehicles.specs.Rules.{emissionCount}
 use Rattle.totals.specs.Totals.{plusToIn}
 use Rattle.totals.proofs.add_all.Statement.{statement}
@@ -18,7 +18,7 @@ abbrev μ-loop : tie.MeasureT-loop
 μ-loop totals₀ emissions i₀ totals i = emissionCount - i
 
 loop-again : tie.Need-loop-again Inv-loop μ-loop
-unfolding plusToIn mixedOf
+unfolding plusToIn wordsOf
 loop-again c = (omega arith, omega arith, rw add-one (c .before .before .add .ensures ∙ rw (c .before .before .before .before .before .before .loop .inv .2)))
 
 returns : tie.Need-returns Inv-loop μ-loop

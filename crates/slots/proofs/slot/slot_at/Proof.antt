@@ -1,4 +1,4 @@
--- A slot that the file has is the part of it from 64 n on; one that it has not is the zeros.
+-- A slot that the file has is the part of it from n slots on; one that it has not is the zeros.
 use borrow.Author.Tests.{lt-ltb, le-ltb}
 use native.Mathlib.Omega.{arith}
 use mathlib.Core.Path.{_≡_, sym, ap, _∙_}
@@ -7,13 +7,13 @@ use Prim.Native.Nat.{ℕ, _+_}
 use lib.ListN.{getD, length, take, drop}
 use lib.Seq.{getD-take, getD-drop}
 use Rattle.sums.proofs.Choices.{yes, no, listTo-is}
-use Rattle.slots.specs.Bytes.{bytesFrom, slotOf}
+use Rattle.slots.specs.Bytes.{slotSize, bytesFrom, slotOf}
 use Rattle.slots.proofs.slot.slot_at.Statement.{statement}
 use Rattle.slots.proofs.slot.slot_at.Tie as tie
 
-part-is : (s : List ℕ) (base k : ℕ) → k ≡ 64 → k ≡ length (take k (drop base s)) → take k (drop base s) ≡ bytesFrom s base
+part-is : (s : List ℕ) (base k : ℕ) → k ≡ slotSize → k ≡ length (take k (drop base s)) → take k (drop base s) ≡ bytesFrom s base
 unfolding bytesFrom
-part-is s base k e l = listTo-is 0 64 (take k (drop base s)) (λ (i : ℕ). getD s (base + i) 0) (sym l ∙ e) (λ i p. rw (e, getD-take, getD-drop))
+part-is s base k e l = listTo-is 0 slotSize (take k (drop base s)) (λ (i : ℕ). getD s (base + i) 0) (sym l ∙ e) (λ i p. rw (e, getD-take, getD-drop))
 
 returns : tie.Need-returns
 unfolding slotOf

@@ -1,33 +1,28 @@
--- Each step of the long division leaves less than the divisor, so its digit has 16 bits.
+-- The steps of a long division, each below the divisor.
 use native.Mathlib.Omega.{arith}
+use mathlib.Core.Path.{ap}
+use Rattle.sums.specs.Figures.{mixedOf}
+use Rattle.sums.specs.declared.mixed.Mixed.{Mixed}
 use Rattle.sums.proofs.LongDivision.{divided}
 use Rattle.sums.proofs.mixed.two_words.Statement.{statement}
 use Rattle.sums.proofs.mixed.two_words.Tie as tie
 
 returns : tie.Need-returns
+unfolding mixedOf
 returns c =
-    let g = c .before in
-    let g4 = g .before in
-    let g3 = g4 .before in
-    let g2 = g3 .before in
-    let g1 = g2 .before in
-    let n4 = g1 .before in
-    let r4 = n4 .before in
-    let n3 = r4 .before in
-    let r3 = n3 .before in
-    let n2 = r3 .before in
-    let r2 = n2 .before in
-    let n1 = r2 .before in
-    let r1 = n1 .before in
-    let s = r1 .before in
-    let d = s .args .d in
-    let q = rw (g4 .digit-of4 .ensures .0, g3 .digit-of3 .ensures .0, g2 .digit-of2 .ensures .0, g1 .digit-of .ensures .0) at (g .digits .ensures) in (
-      rw (c .rest-of5 .ensures .0, q)
-          (divided d (s .args .whole) (s .args .part) (n1 .next-of .result) (n2 .next-of2 .result) (n3 .next-of3 .result) (n4 .next-of4 .result)
-          (rw (← r1 .rest-of .ensures .0) (n1 .next-of .ensures .0)) (rw (← r2 .rest-of2 .ensures .0) (n2 .next-of2 .ensures .0))
-          (rw (← r3 .rest-of3 .ensures .0) (n3 .next-of3 .ensures .0)) (rw (← r4 .rest-of4 .ensures .0) (n4 .next-of4 .ensures .0)) (s .pre .least) (rw (← q) (omega arith))),
-      c .rest-of5 .ensures .1,
+    let e = c .before in
+    let k = e .before in
+    let b = k .before in
+    let a = b .before in
+    let f = a .before in
+    let s = f .before in
+    let q = c .digits .ensures in (
+      rw q
+          (divided (s .args .d) (s .args .high) (s .args .low) (f .one-word .result .part) (a .step .result) (b .step2 .result) (k .step3 .result) (e .step4 .result)
+          (ap (λ (m : Mixed). m .part) (f .one-word .ensures .0)) (a .step .ensures .0) (b .step2 .ensures .0) (k .step3 .ensures .0) (e .step4 .ensures .0) (s .pre .least) (e .step4 .ensures .2)
+          (rw (← q) (omega arith))),
+      e .step4 .ensures .2,
     )
 
 pub two-words-spec : {M : Type 1} → statement M
-two-words-spec = tie.close (tie.spec (omega arith) (omega arith) (omega arith) (omega arith) (omega arith) (omega arith) (omega arith) (omega arith) (omega arith) (omega arith) (omega arith) (omega arith) (omega arith) (omega arith) returns)
+two-words-spec = tie.close (tie.spec (omega arith) (omega arith) (omega arith) (omega arith) (omega arith) (omega arith) returns)

@@ -7,7 +7,7 @@ use mathlib.Core.List.{append-nil}
 use lib.ListN.{getD, length, drop, drop-of-length-le}
 use lib.Seq.{sets, sets-eq, drop-cons}
 use Rattle.sums.specs.Answer.{noEmission}
-use Rattle.sums.specs.Figures.{mixedOf}
+use Rattle.sums.specs.Figures.{wordsOf}
 use Rattle.vehicles.specs.Rules.{emissionCount}
 use Rattle.listing.proofs.Writing.{Due, turn, done}
 use Rattle.tezhebul.specs.Numbers.{emissionNumbers, emissionSize, emissionsNumbers, groupSize}
@@ -25,7 +25,7 @@ loop-holds : tie.Need-loop-holds Inv-loop μ-loop
 loop-holds c = (omega arith, omega arith, omega arith, record { same = refl; ends = refl })
 
 loop-again : tie.Need-loop-again Inv-loop μ-loop
-unfolding mixedOf
+unfolding wordsOf
 loop-again c =
     let b = c .before .before .before .before .before .before .before in
     let es = b .before .before .before .args .t2 in

@@ -1,4 +1,4 @@
--- By `Mixed::times` with this denominator.
+-- By `Words::times`.
 use native.Mathlib.Omega.{arith}
 use Rattle.sums.proofs.annual.AnnualSum.times.Statement.{statement}
 use Rattle.sums.proofs.annual.AnnualSum.times.Tie as tie

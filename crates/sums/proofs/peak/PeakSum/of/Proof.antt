@@ -1,4 +1,4 @@
--- By `Mixed::of` with this denominator.
+-- By `Words::of`.
 use native.Mathlib.Omega.{arith}
 use Rattle.sums.proofs.peak.PeakSum.of.Statement.{statement}
 use Rattle.sums.proofs.peak.PeakSum.of.Tie as tie

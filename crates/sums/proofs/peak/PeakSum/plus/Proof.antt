@@ -1,4 +1,4 @@
--- By `Mixed::plus` with this denominator.
+-- By `Words::plus`.
 use native.Mathlib.Omega.{arith}
 use Rattle.sums.proofs.peak.PeakSum.plus.Statement.{statement}
 use Rattle.sums.proofs.peak.PeakSum.plus.Tie as tie

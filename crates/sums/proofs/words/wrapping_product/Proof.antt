@@ -4,8 +4,8 @@ use mathlib.Core.Path.{ap}
 use mir.Facts.{fits-below}
 use Prim.Native.Nat.{ℕ, _*_, _/_, _%_, _≤_}
 use native.Mathlib.Nat.{mul-le-mul, div-add-mod'}
-use Rattle.sums.proofs.mixed.wrapping_product.Statement.{statement}
-use Rattle.sums.proofs.mixed.wrapping_product.Tie as tie
+use Rattle.sums.proofs.words.wrapping_product.Statement.{statement}
+use Rattle.sums.proofs.words.wrapping_product.Tie as tie
 
 module _ (x : ℕ) (fits : x ≤ 18446744073709551615) where
   high : x / 4294967296 ≤ 4294967295

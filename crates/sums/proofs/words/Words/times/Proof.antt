@@ -1,20 +1,19 @@
 -- The low word's halves are multiplied, and what passes them is carried.
 use native.Mathlib.Omega.{arith}
-use mathlib.Core.Path.{_≡_, refl}
-use Rattle.sums.specs.Figures.{partsIn}
+use Rattle.sums.specs.Figures.{unitsIn}
 use Rattle.sums.proofs.Carrying.{multiplied}
-use Rattle.sums.proofs.mixed.Mixed.times.Statement.{statement}
-use Rattle.sums.proofs.mixed.Mixed.times.Tie as tie
+use Rattle.sums.proofs.words.Words.times.Statement.{statement}
+use Rattle.sums.proofs.words.Words.times.Tie as tie
 
 returns : tie.Need-returns
-unfolding partsIn
+unfolding unitsIn
 returns c =
     let u = c .before .before in
     let l = u .before .before in
     let w = l .before .before in
     let s = w .before .args in
     rw (c .wrapping-add-u64 .ensures, c .before .wrapping-product .ensures, w .wide .ensures .0)
-    (multiplied (s .self .whole) (s .self .part) (s .k) (l .product .result) _ (rw (← w .wide .ensures .0) (l .product .ensures .0)) (rw (u .product2 .ensures .0, w .wide .ensures .0)))
+    (multiplied (s .self .high) (s .self .low) (s .k) (l .product .result) _ (rw (← w .wide .ensures .0) (l .product .ensures .0)) (rw (u .product2 .ensures .0, w .wide .ensures .0)))
 
 pub times-spec : {M : Type 1} → statement M
 times-spec = tie.close (tie.spec (omega arith) (omega arith) (omega arith) (omega arith) (omega arith) (omega arith) (omega arith) (omega arith) returns)

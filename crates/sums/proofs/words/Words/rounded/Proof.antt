@@ -2,17 +2,17 @@
 use native.Mathlib.Omega.{arith}
 use Prim.Native.Nat.{_+_, _*_, _^_}
 use mathlib.Core.Path.{_≡_}
-use Rattle.sums.specs.Figures.{partsIn, mixedOf, unitsIn}
+use Rattle.sums.specs.Figures.{mixedOf, unitsIn}
 use Rattle.sums.proofs.LongDivision.{no-units, rounded}
-use Rattle.sums.proofs.mixed.Mixed.rounded.Statement.{statement}
-use Rattle.sums.proofs.mixed.Mixed.rounded.Tie as tie
+use Rattle.sums.proofs.words.Words.rounded.Statement.{statement}
+use Rattle.sums.proofs.words.Words.rounded.Tie as tie
 
 returns : tie.Need-returns
-unfolding partsIn
+unfolding unitsIn
 returns c =
     let s = c .before .before .before .before in
     let m = s .args .self in
-    let e : m .whole * 2 ^ 64 + m .part ≡ 0 = omega (arith, c .if2 .taken, c .before .before .if1 .taken) in
+    let e : m .high * 2 ^ 64 + m .low ≡ 0 = omega (arith, c .if2 .taken, c .before .before .if1 .taken) in
     no-units (s .args .d) _ (s .pre .least) e
 
 returns-2 : tie.Need-returns-2
