@@ -17,7 +17,8 @@ extern "C" {
 
    Numbers of an answer: number and slot (0 and 0 of an accepted file), groups, store records, ten annual figures in millionths of a tonne, ten peak figures in
    ten-millionths of a gram per second, by the codes 0152 0184 0301 0328 0330 0337 2704 2754 2908 2909. */
-#define TEZHEBUL_NUMBERS 24
+#define TEZHEBUL_CODES 10
+#define TEZHEBUL_NUMBERS (4 + 2 * TEZHEBUL_CODES)
 
 /* No listing is longer. */
 #define TEZHEBUL_LISTING_MOST 526
@@ -47,7 +48,8 @@ size_t tezhebul_list(const uint8_t *file, size_t file_length, uint8_t *buffer, s
    C narrows a wider integer to the type of a parameter without a warning by default: a caller that holds one tests it first. */
 #define TEZHEBUL_EMISSION_NUMBERS 5
 #define TEZHEBUL_STORE_NUMBERS (2 + TEZHEBUL_EMISSION_NUMBERS)
-#define TEZHEBUL_GROUP_NUMBERS (2 + 6 * TEZHEBUL_EMISSION_NUMBERS)
+#define TEZHEBUL_EMISSIONS 6
+#define TEZHEBUL_GROUP_NUMBERS (2 + TEZHEBUL_EMISSIONS * TEZHEBUL_EMISSION_NUMBERS)
 #define TEZHEBUL_ANNUAL_DENOMINATOR UINT64_C(20000000000000)
 #define TEZHEBUL_PEAK_DENOMINATOR UINT64_C(72000000)
 
@@ -97,7 +99,8 @@ bool tezhebul_aspiration(uint8_t dust, uint16_t store, uint32_t concentration, u
 #define TEZHEBUL_HEATED 2
 #define TEZHEBUL_DISTANCES 4
 #define TEZHEBUL_MONTHS 12
-#define TEZHEBUL_COEFFICIENTS 42
+#define TEZHEBUL_POLLUTANTS 6
+#define TEZHEBUL_COEFFICIENTS (7 * TEZHEBUL_POLLUTANTS)
 
 bool tezhebul_group(uint8_t category, uint8_t fuel, uint8_t flags, uint16_t vehicles, uint16_t leaving, uint8_t share, uint8_t running, uint8_t warming,
                     uint32_t idle, const uint32_t *distances, size_t distances_length, const uint8_t *days, size_t days_length, const int16_t *temperatures,

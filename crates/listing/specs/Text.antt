@@ -21,9 +21,9 @@ listingRoom = 64 * codeCount
 abbrev pub lineMost : ℕ
 lineMost = 49
 
--- two numbers parted by a space, and a line feed, and their bytes at most
-abbrev pub pairMost : ℕ
-pairMost = 42
-
+-- two numbers parted by a space, and a line feed, and their bytes at most: 20 digits each
 abbrev pub pair : ℕ → ℕ → List ℕ
 pair x y = decimal x ++ text " " ++ decimal y ++ text "\n"
+
+abbrev pub pairMost : ℕ
+pairMost = 42

@@ -52,11 +52,11 @@ annualFigure xs c = nearest (exactSum (λ (x : Contribution). x .tonnes) c xs �
 unfoldable pub peakFigure : List Contribution → ℕ → ℕ
 peakFigure xs c = nearest (exactSum (λ (x : Contribution). x .rate) c xs ⊙ whole 10000000)
 
--- the letter: "those are the lengths of the two chains"
+-- the lengths of the chains, which the counts of an accepted file are (`Rounded.counts-are`)
 abbrev pub countsOf : Chains → Counts
 countsOf c = record { groups = length (c .groups); stores = length (c .stores) }
 
--- the answer: a number and a slot, 0 and 0 of an accepted file; the figures by code, and how many groups and store records were summed
+-- the answer: a number and a slot, 0 and 0 of an accepted file; the figures by code; and, by the letter, "how many vehicle groups and store records were summed"
 unfoldable pub summed : Inventory → Answer
 summed v = record {
   number = 0;

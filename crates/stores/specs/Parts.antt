@@ -33,14 +33,14 @@ aspirationParts a = a .concentration * a .flow * (10000 - a .capture)
 abbrev massUnits : ℕ
 massUnits = tonneParts / 10000000000000000
 
--- of a 6,000,000,000,000th of a gram per second those of the peak and of the year, in which it is 36,792 such parts of a tonne; and of a 10,000,000,000th of a gram
--- per second those of the peak and of an hour, in which it is 3,600
+-- of a 6,000,000,000,000th of a gram per second, the exact units of the peak, and of the year: 31.536 times 0.7 of it is 36,792 such parts of a tonne
 abbrev pub bulkUnits : ℕ
 bulkUnits = gramParts / 6000000000000
 
 abbrev pub bulkYearUnits : ℕ
 bulkYearUnits = 36792 * massUnits
 
+-- of a 10,000,000,000th of a gram per second, those of the peak, and of an hour: 0.0036 of it is 3,600 such parts of a tonne
 abbrev pub aspirationUnits : ℕ
 aspirationUnits = gramParts / 10000000000
 

@@ -6,10 +6,6 @@ use Rattle.sums.specs.declared.words.Words.{Words}
 use Rattle.sums.specs.declared.annual.AnnualSum.{AnnualSum}
 use Rattle.sums.specs.declared.peak.PeakSum.{PeakSum}
 
--- "The figure is the largest whole number of its units that isn't above the exact sum plus half a unit": of x units
-unfoldable pub nearest : Frac → ℕ
-nearest x = (2 * x .num + x .den) / (2 * x .den)
-
 -- "Annual: whole millionths of a tonne. Peak: whole ten-millionths of a gram per second. Every exact unit has one denominator":
 -- the exact units in a millionth of a tonne, and in a ten-millionth of a gram per second
 abbrev pub annualDenominator : ℕ
@@ -45,10 +41,11 @@ peakParts s = unitsIn (s .0)
 abbrev pub peakOf : ℕ → PeakSum
 peakOf x = record { 0 = wordsOf x }
 
--- whole units, of which there are 64 bits, and what is left of one: so many d-ths, and those of x d-ths
+-- whole units and a part of one over d count so many d-ths
 unfoldable pub partsIn : ℕ → Mixed → ℕ
 partsIn d m = m .whole * d + m .part
 
+-- x d-ths as whole units, of which there are 64 bits, and what is left of one
 unfoldable pub mixedOf : ℕ → ℕ → Mixed
 mixedOf d x = record { whole = x / d % 2 ^ 64; part = x % d }
 
@@ -58,6 +55,10 @@ annualPrinted s = mixedOf annualDenominator (annualParts s)
 
 abbrev pub peakPrinted : PeakSum → Mixed
 peakPrinted s = mixedOf peakDenominator (peakParts s)
+
+-- "The figure is the largest whole number of its units that isn't above the exact sum plus half a unit": of x units
+unfoldable pub nearest : Frac → ℕ
+nearest x = (2 * x .num + x .den) / (2 * x .den)
 
 -- the figure of a sum
 abbrev pub annualFigure : AnnualSum → ℕ

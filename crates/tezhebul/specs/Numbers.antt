@@ -29,7 +29,7 @@ answerSize = 4 + 2 * codeCount
 unfoldable pub into : List ℕ → List ℕ → List ℕ
 into l buffer = if_then_else (leb (length l) (length buffer)) (l ++ drop (length l) buffer) buffer
 
--- an emission: the substance code, then the exact annual sum and the exact peak sum, each as whole printed units and the part of one that is left over its denominator
+-- an emission: the substance code, then the exact annual sum and the exact peak sum, each as whole printed units and the part of one that is left, over its denominator
 abbrev pub emissionNumbers : Emission → List ℕ
 emissionNumbers e =
     e .code ∷ annualPrinted (e .annual) .whole ∷ annualPrinted (e .annual) .part ∷ peakPrinted (e .peak) .whole ∷ peakPrinted (e .peak) .part ∷ []

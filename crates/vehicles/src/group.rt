@@ -6,7 +6,7 @@ use super::units::Minutes;
 use super::units::PerKilometre;
 use super::units::PerMinute;
 
-// Those that coefficients are given for: CO, hydrocarbons, NO2, soot, SO2, lead.
+// How many pollutants coefficients are given for: CO, hydrocarbons, NO2, soot, SO2, lead.
 pub const POLLUTANTS: usize = 6;
 
 // From the nearest and from the farthest place of the yard.

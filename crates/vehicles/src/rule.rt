@@ -23,7 +23,7 @@ use sums::Emission;
 use sums::PeakSum;
 use sums::Verdict;
 
-// What a group's answer holds: one for each pollutant.
+// How many emissions a group's answer holds: one for each pollutant.
 pub const EMISSIONS: usize = POLLUTANTS;
 
 pub struct GroupAnswer {

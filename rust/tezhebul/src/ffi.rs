@@ -5,8 +5,11 @@
 
 use crate::rules::{Aspiration, Bulk, Group, Handling, Standing};
 
+/// TEZHEBUL_CODES
+pub const CODES: usize = 10;
+
 /// TEZHEBUL_NUMBERS
-pub const NUMBERS: usize = 24;
+pub const NUMBERS: usize = 4 + 2 * CODES;
 
 /// TEZHEBUL_EMISSION_NUMBERS
 pub const EMISSION_NUMBERS: usize = 5;
@@ -14,11 +17,17 @@ pub const EMISSION_NUMBERS: usize = 5;
 /// TEZHEBUL_STORE_NUMBERS
 pub const STORE_NUMBERS: usize = 2 + EMISSION_NUMBERS;
 
+/// TEZHEBUL_EMISSIONS
+pub const EMISSIONS: usize = 6;
+
 /// TEZHEBUL_GROUP_NUMBERS
-pub const GROUP_NUMBERS: usize = 2 + 6 * EMISSION_NUMBERS;
+pub const GROUP_NUMBERS: usize = 2 + EMISSIONS * EMISSION_NUMBERS;
+
+/// TEZHEBUL_POLLUTANTS
+pub const POLLUTANTS: usize = 6;
 
 /// TEZHEBUL_COEFFICIENTS
-pub const COEFFICIENTS: usize = 42;
+pub const COEFFICIENTS: usize = 7 * POLLUTANTS;
 
 extern "C" {
     fn tezhebul_check(file: *const u8, file_length: usize) -> u32;
@@ -237,11 +246,11 @@ mod tests {
 
     #[test]
     fn a_listing_without_its_numbers() {
-        let mut buffer = [b'~'; 526];
+        let mut buffer = [b'~'; crate::LISTING_MOST];
         let mut out = [7; NUMBERS - 1];
         let length = list(&no_sources(), &mut buffer, &mut out);
         assert!(buffer[..length].ends_with(b"\nsources 0 0\n"));
-        assert_eq!(buffer[length..], [b'~'; 526][length..]);
+        assert_eq!(buffer[length..], [b'~'; crate::LISTING_MOST][length..]);
         assert_eq!(out, [7; NUMBERS - 1]);
     }
 

@@ -1,6 +1,6 @@
 //! The check, the answer and the listing of a slot file.
 
-use crate::ffi::{self, NUMBERS};
+use crate::ffi::{self, CODES, NUMBERS};
 use crate::Refusal;
 
 /// Counts and figures of an accepted file. The figures stand by the codes 0152 0184 0301 0328 0330
@@ -12,10 +12,13 @@ pub struct Answer {
     /// Store records: handling, standing and aspiration.
     pub stores: u16,
     /// The mass of a year, in millionths of a tonne.
-    pub annual: [u64; 10],
+    pub annual: [u64; CODES],
     /// The peak rate, in ten-millionths of a gram per second.
-    pub peak: [u64; 10],
+    pub peak: [u64; CODES],
 }
+
+/// No listing is longer.
+pub const LISTING_MOST: usize = 526;
 
 /// The last question about a file, and the one about a lent buffer.
 const LAST_QUESTION: u64 = 12;
@@ -45,8 +48,8 @@ pub fn answer(file: &[u8]) -> Result<Answer, Refusal> {
 /// Writes the listing to the start of the buffer and returns its length; no byte behind it is
 /// changed.
 ///
-/// Refused as by [`check`], and then by 13 where the buffer is shorter than the listing: 526 bytes
-/// are always enough. A refusal changes no byte of the buffer.
+/// Refused as by [`check`], and then by 13 where the buffer is shorter than the listing:
+/// [`LISTING_MOST`] bytes are always enough. A refusal changes no byte of the buffer.
 pub fn list(file: &[u8], buffer: &mut [u8]) -> Result<usize, Refusal> {
     list_and_answer(file, buffer).map(|(length, _)| length)
 }

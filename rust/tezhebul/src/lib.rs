@@ -11,7 +11,7 @@
 //! file[2] = 1;
 //! assert_eq!(tezhebul::check(&file), Ok(()));
 //!
-//! let mut buffer = [0; 526];
+//! let mut buffer = [0; tezhebul::LISTING_MOST];
 //! let length = tezhebul::list(&file, &mut buffer).expect("the file is accepted");
 //! assert!(buffer[..length].ends_with(b"\nsources 0 0\n"));
 //!
@@ -62,7 +62,7 @@ mod refusal;
 mod rules;
 
 pub use emission::{Emission, Exact, ANNUAL_DENOMINATOR, PEAK_DENOMINATOR};
-pub use file::{answer, check, list, list_and_answer, Answer};
+pub use file::{answer, check, list, list_and_answer, Answer, LISTING_MOST};
 pub use refusal::Refusal;
 pub use rules::{
     aspiration, group, handling, standing, Aspiration, Bulk, Coefficients, Group, Handling,

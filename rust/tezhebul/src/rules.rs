@@ -1,7 +1,7 @@
 //! The rules of each kind of source, for tools that hold a source's values and no slot file.
 
 use crate::emission::{self, Emission};
-use crate::ffi::{self, COEFFICIENTS, GROUP_NUMBERS, STORE_NUMBERS};
+use crate::ffi::{self, COEFFICIENTS, EMISSIONS, GROUP_NUMBERS, POLLUTANTS, STORE_NUMBERS};
 use crate::Refusal;
 
 /// Bulk material, handled or standing.
@@ -133,8 +133,8 @@ pub fn aspiration(source: &Aspiration) -> Result<Emission, Refusal> {
 pub fn group(
     source: &Group,
     temperatures: &[i16; 12],
-    coefficients: &[Coefficients; 6],
-) -> Result<[Emission; 6], Refusal> {
+    coefficients: &[Coefficients; POLLUTANTS],
+) -> Result<[Emission; EMISSIONS], Refusal> {
     let mut numbers = [0; GROUP_NUMBERS];
     let written = ffi::group(source, temperatures, &flat(coefficients), &mut numbers);
     assert!(written, "every length is that of the header");
@@ -150,7 +150,7 @@ fn store(rule: impl FnOnce(&mut [u64; STORE_NUMBERS]) -> bool) -> Result<Emissio
 }
 
 /// A row of seven for each pollutant: warm-up, run, idle.
-fn flat(coefficients: &[Coefficients; 6]) -> [u32; COEFFICIENTS] {
+fn flat(coefficients: &[Coefficients; POLLUTANTS]) -> [u32; COEFFICIENTS] {
     let mut numbers = [0; COEFFICIENTS];
     let (rows, _) = numbers.as_chunks_mut::<7>();
     for (row, pollutant) in rows.iter_mut().zip(coefficients) {

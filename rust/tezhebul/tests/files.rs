@@ -3,7 +3,7 @@
 use std::fs;
 use std::path::Path;
 
-use tezhebul::{answer, check, list, list_and_answer, Answer, Refusal};
+use tezhebul::{answer, check, list, list_and_answer, Answer, Refusal, LISTING_MOST};
 
 fn stored(path: &str) -> Vec<u8> {
     let root = Path::new(env!("CARGO_MANIFEST_DIR")).join("../..");
@@ -38,7 +38,7 @@ fn listed() {
         ("examples/tikhvin.slots", "examples/tikhvin.listing"),
     ] {
         let listing = stored(listing);
-        let mut buffer = [b'~'; 526];
+        let mut buffer = [b'~'; LISTING_MOST];
         let length = list(&stored(file), &mut buffer).unwrap();
         assert_eq!(buffer[..length], listing, "{file}");
         assert!(buffer[length..].iter().all(|&byte| byte == b'~'), "{file}");
@@ -63,7 +63,7 @@ fn a_buffer_as_long_as_the_listing_and_one_byte_short() {
 fn an_empty_slice() {
     assert_eq!(check(&[]), refused(1, 0));
     assert_eq!(answer(&[]), refused(1, 0));
-    assert_eq!(list(&[], &mut [b'~'; 526]), refused(1, 0));
+    assert_eq!(list(&[], &mut [b'~'; LISTING_MOST]), refused(1, 0));
     assert_eq!(list(&[], &mut []), refused(1, 0));
 }
 
@@ -72,9 +72,9 @@ fn an_empty_slice() {
 fn refused_by_number_and_slot() {
     let mut file = stored("crates/inventory/stdin");
     file[64 + 3] = 4;
-    let mut buffer = [b'~'; 526];
+    let mut buffer = [b'~'; LISTING_MOST];
     assert_eq!(check(&file), refused(9, 1));
     assert_eq!(answer(&file), refused(9, 1));
     assert_eq!(list(&file, &mut buffer), refused(9, 1));
-    assert_eq!(buffer, [b'~'; 526]);
+    assert_eq!(buffer, [b'~'; LISTING_MOST]);
 }

@@ -1,5 +1,5 @@
 -- It ends: the measure is the number of turns that are left.
-use borrow.Author.Needs.{needs}
+use native.Mathlib.Omega.{arith}
 use Rattle.file_cases.proofs.main.Statement.{statement}
 use Rattle.file_cases.proofs.main.Tie as tie
 
@@ -10,4 +10,4 @@ abbrev μ-loop : tie.MeasureT-loop
 μ-loop turns₀ turns = turns
 
 pub main-spec : {M : Type 1} → statement M
-main-spec = tie.close (tie.spec Inv-loop μ-loop (search needs) (search needs) (search needs) (search needs) (search needs) (search needs) (search needs))
+main-spec = tie.close (tie.spec Inv-loop μ-loop (omega arith) (omega arith) (omega arith) (omega arith) (omega arith) (omega arith) (omega arith))
