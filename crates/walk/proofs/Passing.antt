@@ -68,8 +68,13 @@ module _ (s : List ℕ) where
   group-marked gs g = slots-marked (reachedBy s gs) g pollutantCount
 
   module _ (h : AllYes (headAsks s)) where
-    pub groups-short : {gs : List ℕ} {link : ℕ} → Groups s (groupsSoFar gs) link → length gs < mostSlots
+    groups-short : {gs : List ℕ} {link : ℕ} → Groups s (groupsSoFar gs) link → length gs < mostSlots
     groups-short {gs} {link} w = different-short (slotCount s) gs (sized s h) (groups-differ s gs _ link (w .chain) (w .good))
+
+    -- the count goes up by one at each step, and stays below the most slots
+    pub groups-few : {summing : Bool} {sources reached : List Bool} {totals : List ℕ} {holder link : ℕ} {counts : Counts}
+        → GroupsPassed s summing sources reached totals holder link counts → counts .groups < mostSlots
+    groups-few p = omega (arith, groups-short (p .chain), ap (λ (n : Counts). n .groups) (p .holds .counts-are))
 
     pub groups-ended : {summing : Bool} {sources reached : List Bool} {totals : List ℕ} {holder link : ℕ} {counts : Counts}
         → GroupsPassed s summing sources reached totals holder link counts → link ≡ 0 → GroupsEnded s summing sources reached totals counts
@@ -134,8 +139,12 @@ module _ (s : List ℕ) (h : AllYes (headAsks s)) where
   sources-short c {link} v w =
       different-short (slotCount s) (sourcesOf (storesSoFar c (c .stores))) (sized s h) (stores-differ s c (c .stores) _ link (groups-differ s (c .groups) _ 0 (v .chain) (v .good)) (w .chain) (w .good))
 
-  pub stores-short : (c : Chains) {link : ℕ} → Groups s c 0 → Stores s c link → length (c .stores) < mostSlots
+  stores-short : (c : Chains) {link : ℕ} → Groups s c 0 → Stores s c link → length (c .stores) < mostSlots
   stores-short c v w = omega (arith, length-append (c .stores) (c .groups), sources-short c v w)
+
+  pub stores-few : {summing : Bool} {sources reached : List Bool} {totals : List ℕ} {holder link : ℕ} {counts : Counts}
+      → StoresPassed s summing sources reached totals holder link counts → counts .stores < mostSlots
+  stores-few p = omega (arith, stores-short (p .c) (p .group-chain) (p .chain), ap (λ (n : Counts). n .stores) (p .holds .counts-are))
 
   pub stores-ended : {summing : Bool} {sources reached : List Bool} {totals : List ℕ} {holder link : ℕ} {counts : Counts} {v : Verdict}
       → StoresPassed s summing sources reached totals holder link counts → link ≡ 0

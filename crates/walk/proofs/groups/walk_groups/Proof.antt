@@ -13,11 +13,10 @@ use Rattle.slot_file.specs.Sources.{temperaturesAt}
 use Rattle.slot_file.specs.Questions.{mostSlots, reachedBy, groupsSoFar}
 use Rattle.slot_file.specs.Meaning.{at-group}
 use Rattle.slot_file.proofs.Verdicts.{bytes-most}
-use Rattle.slot_file.specs.declared.Counts.{Counts}
 use Rattle.totals.specs.Totals.{Sums}
 use Rattle.totals.proofs.Sums.{no-sums}
 use Rattle.walk.specs.Walked.{plusGroup, GroupsPassed}
-use Rattle.walk.proofs.Passing.{groups-short, groups-ended, group-passed}
+use Rattle.walk.proofs.Passing.{groups-few, groups-ended, group-passed}
 use Rattle.walk.proofs.groups.walk_groups.Statement.{statement}
 use Rattle.walk.proofs.groups.walk_groups.Tie as tie
 
@@ -49,7 +48,9 @@ step-group-requires : tie.Need-step-group-requires Inv-loop μ-loop
 step-group-requires c κs = (bytes-most _ (c .before .before .before .before .before .before .before .before .pre .head), c .before .before .loop-test .taken)
 
 same-length : tie.Need-same-length Inv-loop μ-loop
-same-length c = c .before .before .before .before .before .before .before .loop .inv .holds .room ∙ sym (ap length (c .before .before .before .before .before .before .before .before .before .before .before .before .pre .none-summed))
+same-length c =
+    let b = c .before .before .before .before .before .before .before in
+    b .loop .inv .holds .room ∙ sym (ap length (b .before .before .before .before .before .pre .none-summed))
 
 returns : tie.Need-returns Inv-loop μ-loop
 returns c =
@@ -65,12 +66,12 @@ returns c =
 add-counts : tie.Need-add-counts Inv-loop μ-loop
 add-counts c =
     let b = c .before .before .before .before .before .before .before .before .before .before .before .before in
-    omega (arith, groups-short _ (b .before .before .before .before .before .pre .head) (b .loop .inv .chain), ap (λ (n : Counts). n .groups) (b .loop .inv .holds .counts-are))
+    omega (arith, groups-few _ (b .before .before .before .before .before .pre .head) (b .loop .inv))
 
 loop-less : tie.Need-loop-less Inv-loop μ-loop
 loop-less c =
     let b = c .before .before .before .before .before .before .before .before .before .before .before .before in
-    omega (arith, groups-short _ (b .before .before .before .before .before .pre .head) (b .loop .inv .chain), ap (λ (n : Counts). n .groups) (b .loop .inv .holds .counts-are))
+    omega (arith, groups-few _ (b .before .before .before .before .before .pre .head) (b .loop .inv))
 
 loop-again : tie.Need-loop-again Inv-loop μ-loop
 unfolding temperaturesAt

@@ -8,9 +8,8 @@ use Rattle.slots.specs.declared.header.Header.{Header}
 use Rattle.slot_file.specs.Questions.{mostSlots, groupsSoFar, storesSoFar}
 use Rattle.slot_file.specs.Meaning.{at-store}
 use Rattle.slot_file.proofs.Verdicts.{bytes-most}
-use Rattle.slot_file.specs.declared.Counts.{Counts}
 use Rattle.walk.specs.Walked.{StoresPassed}
-use Rattle.walk.proofs.Passing.{stores-short, stores-ended, store-passed}
+use Rattle.walk.proofs.Passing.{stores-few, stores-ended, store-passed}
 use Rattle.walk.proofs.records.walk_stores.Statement.{statement}
 use Rattle.walk.proofs.records.walk_stores.Tie as tie
 
@@ -37,7 +36,9 @@ step-store-requires : tie.Need-step-store-requires Inv-loop μ-loop
 step-store-requires c κs = (bytes-most _ (c .before .before .before .before .before .before .before .pre .head), c .before .before .loop-test .taken)
 
 same-length : tie.Need-same-length Inv-loop μ-loop
-same-length c = c .before .before .before .before .before .before .before .loop .inv .holds .room ∙ sym (c .before .before .before .before .before .before .before .before .before .before .before .pre .groups .passed .holds .room)
+same-length c =
+    let b = c .before .before .before .before .before .before .before in
+    b .loop .inv .holds .room ∙ sym (b .before .before .before .before .pre .groups .passed .holds .room)
 
 returns : tie.Need-returns Inv-loop μ-loop
 returns c =
@@ -53,14 +54,12 @@ returns c =
 add-counts : tie.Need-add-counts Inv-loop μ-loop
 add-counts c =
     let b = c .before .before .before .before .before .before .before .before .before .before .before .before in
-    let p = b .loop .inv in
-    omega (arith, stores-short _ (b .before .before .before .before .pre .head) (p .c) (p .group-chain) (p .chain), ap (λ (n : Counts). n .stores) (p .holds .counts-are))
+    omega (arith, stores-few _ (b .before .before .before .before .pre .head) (b .loop .inv))
 
 loop-less : tie.Need-loop-less Inv-loop μ-loop
 loop-less c =
     let b = c .before .before .before .before .before .before .before .before .before .before .before .before in
-    let p = b .loop .inv in
-    omega (arith, stores-short _ (b .before .before .before .before .pre .head) (p .c) (p .group-chain) (p .chain), ap (λ (n : Counts). n .stores) (p .holds .counts-are))
+    omega (arith, stores-few _ (b .before .before .before .before .pre .head) (b .loop .inv))
 
 loop-again : tie.Need-loop-again Inv-loop μ-loop
 loop-again c =
