@@ -1,14 +1,14 @@
 -- The figures and the counts of an accepted file, in the letter's words: an exact sum is a number, since each of its terms is (`Units`), so its figure lies within
 -- half a unit of it; a list that is reversed and mapped keeps its length. Assumes nothing.
-use Prim.Native.Nat.{ℕ, zero, suc, _+_, _*_, _<_, _≤_}
+use Prim.Native.Nat.{ℕ, zero, suc, _<_}
 use native.Mathlib.Nat.{not-suc-le-zero, le-of-suc-le-suc}
 use mathlib.Core.Path.{_≡_, refl, ap, _∙_}
 use mathlib.Core.List.{List, [], _∷_, map, reverse}
 use lib.Dec.{lit<}
 use lib.ListN.{getD, length, length-map, length-reverse}
-use Rattle.sums.specs.Fraction.{Frac, whole, _⊙_}
-use Rattle.sums.specs.Figures.{nearest, tonneParts, gramParts}
-use Rattle.sums.proofs.Rounding.{within, half-up}
+use Rattle.sums.specs.Fraction.{whole, _⊙_}
+use Rattle.sums.specs.Figures.{tonneParts, gramParts, Rounded}
+use Rattle.sums.proofs.Rounding.{rounded}
 use Rattle.sums.specs.Answer.{Contribution}
 use Rattle.slot_file.specs.Questions.{accepted}
 use Rattle.slot_file.specs.Walk.{verdict}
@@ -17,16 +17,6 @@ use Rattle.slot_file.specs.Codes.{codes, codeCount}
 use Rattle.slot_file.specs.Figures.{contributions, exactSum, annualFigure, peakFigure, countsOf, summed, answer}
 use Rattle.slot_file.proofs.Units.{Units, exact-parts}
 use Rattle.slot_file.proofs.Agreement.{accepted-answer}
-
--- "rounded once to its last digit, so it lies within half of that digit, and an exact half goes up": the figure of x units, twice over
-pub record Rounded (figure : ℕ) (x : Frac) : Type 0 where
-  pub number : 0 < x .den
-  pub above : 2 * (figure * x .den) ≤ 2 * x .num + x .den
-  pub below : 2 * x .num < 2 * (figure * x .den) + x .den
-  pub half : (n : ℕ) → 2 * x .num + x .den ≡ 2 * (n * x .den) → figure ≡ n
-
-rounded : (x : Frac) → 0 < x .den → Rounded (nearest x) x
-rounded x p = record { number = p; above = within x p .0; below = within x p .1; half = half-up x p }
 
 map-at : (f : ℕ → ℕ) (l : List ℕ) (i : ℕ) → i < length l → getD (map f l) i 0 ≡ f (getD l i 0)
 map-at f [] i h = absurd (not-suc-le-zero h)

@@ -12,7 +12,7 @@ use Rattle.sums.specs.Choice.{if_then_else, listTo}
 use Rattle.sums.specs.Fraction.{Frac, _over_, whole, _⊙_, _⊞_, _≈_, partsOf}
 use Rattle.sums.specs.Figures.{tonneParts, gramParts}
 use Rattle.sums.proofs.Fractions.{≈-refl, ≈-⊙, ≈-⊞, ≈-over, parts}
-use Rattle.sums.proofs.Sources.{Counted}
+use Rattle.sums.specs.Exactness.{Counted}
 use Rattle.vehicles.specs.Fields.{noCoefficients}
 use Rattle.vehicles.specs.Rules.{emissionCount}
 use Rattle.vehicles.proofs.Paper.{counted}

@@ -6,7 +6,8 @@ use native.Mathlib.Omega.{arith}
 use mathlib.Core.Path.{_≡_}
 use mathlib.Core.Bool.{true}
 use Rattle.sums.proofs.Products.{_⊗_}
-use Rattle.sums.proofs.Sources.{Bounded, bounded}
+use Rattle.sums.specs.Exactness.{Bounded}
+use Rattle.sums.proofs.Sources.{bounded}
 use Rattle.stores.specs.Fields.{handlingInRange, standingInRange, aspirationInRange}
 use Rattle.stores.specs.Rules.{handlingPeak, standingPeak, bulkTonnes, aspirationPeak, aspirationTonnes}
 use Rattle.stores.specs.Parts.{exposureParts, handlingParts, standingParts, aspirationParts}

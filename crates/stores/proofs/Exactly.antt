@@ -5,7 +5,8 @@ use mathlib.Core.Bool.{true}
 use lib.Dec.{lit<}
 use Rattle.sums.specs.Choice.{if_then_else}
 use Rattle.sums.specs.Answer.{emitted}
-use Rattle.sums.proofs.Sources.{Exactly, exactly}
+use Rattle.sums.specs.Exactness.{Exactly}
+use Rattle.sums.proofs.Sources.{exactly}
 use Rattle.stores.specs.Fields.{handlingInRange, standingInRange, aspirationInRange}
 use Rattle.stores.specs.Rules.{handlingPeak, standingPeak, bulkTonnes, aspirationPeak, aspirationTonnes, handlingContribution, standingContribution, aspirationContribution, handlingAnswer, standingAnswer, aspirationAnswer}
 use Rattle.stores.specs.declared.records.Handling.{Handling}

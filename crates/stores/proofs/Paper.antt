@@ -6,7 +6,7 @@ use lib.Dec.{lit<}
 use Rattle.sums.specs.Fraction.{Frac, _over_, _≈_}
 use Rattle.sums.specs.Figures.{annualOf, peakOf}
 use Rattle.sums.proofs.Fractions.{≈-refl, ≈-⊙, ≈-per, ≈-over, parts}
-use Rattle.sums.proofs.Sources.{Counted}
+use Rattle.sums.specs.Exactness.{Counted}
 use Rattle.sums.specs.Answer.{contribution}
 use Rattle.stores.specs.Rules.{handlingPeak, standingPeak, bulkTonnes, aspirationPeak, aspirationTonnes, codeOf, answer}
 use Rattle.stores.specs.Parts.{exposureParts, handlingParts, standingParts, aspirationParts, bulkUnits, bulkYearUnits, aspirationUnits, aspirationHourUnits, answerOf}

@@ -8,32 +8,9 @@ use lib.Dec.{lit<}
 use Rattle.sums.specs.Choice.{sumTo}
 use Rattle.sums.specs.Fraction.{_over_}
 use Rattle.sums.specs.Figures.{annualDenominator, peakDenominator, unitsIn, wordsOf, partsIn, mixedOf, nearest}
-use Rattle.sums.specs.declared.words.Words.{Words}
+use Rattle.sums.specs.Exactness.{annualMost, peakMost, sourcesMost, filesMost, addedTo, Exact}
 use Rattle.sums.proofs.Choices.{sumTo-bound}
 use Rattle.sums.proofs.Wrapping.{mixed-exact, words-plus, words-exact}
-
--- no source gives a code more than this, in exact units: 150,000,000 tonnes a year, and 27,777,777 grams per second
-abbrev pub annualMost : ℕ
-annualMost = 3000000000000000000000000000
-
-abbrev pub peakMost : ℕ
-peakMost = 20000000000000000000000
-
--- sources in a file, and files whose annual sums are added
-abbrev pub sourcesMost : ℕ
-sourcesMost = 1023
-
-abbrev pub filesMost : ℕ
-filesMost = 64
-
--- n terms, added one by one
-unfoldable pub addedTo : ℕ → (ℕ → ℕ) → Words
-addedTo zero f = wordsOf 0
-addedTo (suc n) f = wordsOf (unitsIn (addedTo n f) + unitsIn (wordsOf (f n)))
-
-pub record Exact (d n : ℕ) (f : ℕ → ℕ) : Type 0 where
-  pub sum : unitsIn (addedTo n f) ≡ sumTo n f
-  pub figure : nearest (unitsIn (addedTo n f) over d) % 2 ^ 64 ≡ nearest (sumTo n f over d)
 
 -- such a figure has 64 bits
 figure-fits : (d : ℕ) → 0 < d → (x : ℕ) → x + d < 2 ^ 64 * d → nearest (x over d) < 2 ^ 64

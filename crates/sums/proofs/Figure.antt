@@ -9,7 +9,8 @@ use Rattle.sums.specs.Choice.{sumTo}
 use Rattle.sums.specs.Fraction.{Frac, _over_, whole, _⊙_, _≈_, totalTo, partsOf}
 use Rattle.sums.specs.Figures.{annualDenominator, peakDenominator, unitsIn, nearest}
 use Rattle.sums.proofs.Fractions.{≈-refl, ≈-⊙, ≈-over, totalTo-parts}
-use Rattle.sums.proofs.Exact.{Exact, annualMost, peakMost, sourcesMost, filesMost, addedTo, full-annual, full-peak}
+use Rattle.sums.specs.Exactness.{annualMost, peakMost, sourcesMost, filesMost, Exact, Terms, termUnits, figureOf}
+use Rattle.sums.proofs.Exact.{full-annual, full-peak}
 
 pub nearest-same : {x y : Frac} → x ≈ y → nearest x ≡ nearest y
 unfolding nearest
@@ -18,32 +19,19 @@ nearest-same {x} {y} e =
     let d : 2 * x .den * y .den ≡ 2 * y .den * x .den = omega arith in
     sym (mul-div-mul-right (2 * x .num + x .den) (2 * x .den) (e .right)) ∙ rw (n, d) (mul-div-mul-right (2 * y .num + y .den) (2 * y .den) (e .left))
 
--- n terms of at most k, with u printed units in a tonne or a gram per second and d exact units in a printed one: each is a whole number of exact units, at most b
-pub record Terms (k u d b : ℕ) (x : ℕ → Frac) (n : ℕ) : Type 0 where
-  pub few : n ≤ k
-  pub same : (i : ℕ) → i < n → x i ≈ (partsOf (u * d) (x i) over (u * d))
-  pub most : (i : ℕ) → i < n → partsOf (u * d) (x i) ≤ b
-
-abbrev unitsOf : ℕ → (ℕ → Frac) → ℕ → ℕ
-unitsOf k x i = partsOf k (x i)
-
--- the figure of their units, added one by one
-abbrev figureOf : ℕ → ℕ → (ℕ → Frac) → ℕ → ℕ
-figureOf u d x n = nearest (unitsIn (addedTo n (unitsOf (u * d) x)) over d) % 2 ^ 64
-
 module _ (u d : ℕ) (pd : 0 < d) (pk : 0 < u * d) (x : ℕ → Frac) (n : ℕ) (same : (i : ℕ) → i < n → x i ≈ (partsOf (u * d) (x i) over (u * d))) where
-  total : totalTo n x ⊙ whole u ≈ (sumTo n (unitsOf (u * d) x) over d)
-  total = ≈-over (sumTo n (unitsOf (u * d) x)) d pd (omega arith) (≈-⊙ (totalTo-parts x (unitsOf (u * d) x) (u * d) pk n same) (≈-refl u 1 (lit< tt)))
+  total : totalTo n x ⊙ whole u ≈ (sumTo n (termUnits (u * d) x) over d)
+  total = ≈-over (sumTo n (termUnits (u * d) x)) d pd (omega arith) (≈-⊙ (totalTo-parts x (termUnits (u * d) x) (u * d) pk n same) (≈-refl u 1 (lit< tt)))
 
-  figured : Exact d n (unitsOf (u * d) x) → figureOf u d x n ≡ nearest (totalTo n x ⊙ whole u)
+  figured : Exact d n (termUnits (u * d) x) → figureOf u d x n ≡ nearest (totalTo n x ⊙ whole u)
   figured e = e .figure ∙ sym (nearest-same total)
 
 -- tonnes, to the millionth
 pub annual-figure : (x : ℕ → Frac) (n : ℕ) → Terms (filesMost * sourcesMost) 1000000 annualDenominator annualMost x n →
     figureOf 1000000 annualDenominator x n ≡ nearest (totalTo n x ⊙ whole 1000000)
-annual-figure x n t = figured 1000000 annualDenominator (lit< tt) (lit< tt) x n (t .same) (full-annual (unitsOf (1000000 * annualDenominator) x) n (t .few) (t .most))
+annual-figure x n t = figured 1000000 annualDenominator (lit< tt) (lit< tt) x n (t .same) (full-annual (termUnits (1000000 * annualDenominator) x) n (t .few) (t .most))
 
 -- grams per second, to the ten-millionth
 pub peak-figure : (x : ℕ → Frac) (n : ℕ) → Terms sourcesMost 10000000 peakDenominator peakMost x n →
     figureOf 10000000 peakDenominator x n ≡ nearest (totalTo n x ⊙ whole 10000000)
-peak-figure x n t = figured 10000000 peakDenominator (lit< tt) (lit< tt) x n (t .same) (full-peak (unitsOf (10000000 * peakDenominator) x) n (t .few) (t .most))
+peak-figure x n t = figured 10000000 peakDenominator (lit< tt) (lit< tt) x n (t .same) (full-peak (termUnits (10000000 * peakDenominator) x) n (t .few) (t .most))

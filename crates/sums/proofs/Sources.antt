@@ -6,31 +6,14 @@ use native.Mathlib.Nat.{le-refl, mul-le-mul}
 use native.Mathlib.Omega.{arith}
 use lib.Dec.{lit<}
 use Rattle.sums.specs.Fraction.{Frac, _over_, _≈_, partsOf}
-use Rattle.sums.specs.Figures.{annualDenominator, peakDenominator, tonneParts, gramParts, partsIn, annualParts, peakParts, annualPrinted, peakPrinted}
+use Rattle.sums.specs.Figures.{annualDenominator, peakDenominator, tonneParts, gramParts}
 use Rattle.sums.specs.Answer.{Contribution, emitted}
-use Rattle.sums.specs.declared.answer.Emission.{Emission}
-use Rattle.sums.proofs.Exact.{annualMost, peakMost, sum-exact, printed-exact}
+use Rattle.sums.specs.Exactness.{annualMost, peakMost, Counted, Bounded, Exactly}
+use Rattle.sums.proofs.Exact.{sum-exact, printed-exact}
 use Rattle.sums.proofs.Fractions.{parts}
-
--- a year's tonnes and a peak, each in its exact units
-pub record Counted (tonnes rate : Frac) (a p : ℕ) : Type 0 where
-  pub annual : tonnes ≈ (a over tonneParts)
-  pub peak : rate ≈ (p over gramParts)
-
--- within what a full file's sums allow a source that gives so much at most k times
-pub record Bounded (k : ℕ) (tonnes rate : Frac) : Type 0 where
-  pub annual : k * partsOf tonneParts tonnes ≤ annualMost
-  pub peak : k * partsOf gramParts rate ≤ peakMost
 
 pub bounded : {tonnes rate : Frac} {a p : ℕ} (k : ℕ) → Counted tonnes rate a p → k * a ≤ annualMost → k * p ≤ peakMost → Bounded k tonnes rate
 bounded k e h l = record { annual = rw (parts (e .annual)) h; peak = rw (parts (e .peak)) l }
-
--- the emission has exactly so many tonnes a year and so many grams per second, and so has it in printed units with their parts
-pub record Exactly (e : Emission) (tonnes rate : Frac) : Type 0 where
-  pub annual : tonnes ≈ (annualParts (e .annual) over tonneParts)
-  pub peak : rate ≈ (peakParts (e .peak) over gramParts)
-  pub annual-printed : partsIn annualDenominator (annualPrinted (e .annual)) ≡ annualParts (e .annual)
-  pub peak-printed : partsIn peakDenominator (peakPrinted (e .peak)) ≡ peakParts (e .peak)
 
 pub exactly : (x : Contribution) {a p k : ℕ} → 0 < k → Counted (x .tonnes) (x .rate) a p → Bounded k (x .tonnes) (x .rate) → Exactly (emitted x) (x .tonnes) (x .rate)
 exactly x z e b =

@@ -21,7 +21,7 @@ pub record Contribution : Type 0 where
 abbrev pub contribution : ℕ → Frac → Frac → Contribution
 contribution c t r = record { code = c; tonnes = t; rate = r }
 
--- the same in exact units, of which it drops nothing (`proofs/Sources`)
+-- the same in exact units, of which it drops nothing (`Exactness.Exactly`)
 abbrev pub emitted : Contribution → Emission
 emitted x = record { code = x .code; annual = annualSum (x .tonnes); peak = peakSum (x .rate) }
 

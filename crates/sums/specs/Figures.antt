@@ -1,5 +1,7 @@
 -- 01, "Figures": the exact units, the sums counted in them, and rounding.
-use Prim.Native.Nat.{ℕ, _+_, _*_, _/_, _%_, _^_}
+use Prim.Native.Nat.{ℕ, _+_, _*_, _/_, _%_, _^_, _<_, _≤_}
+use mathlib.Core.Path.{_≡_}
+use mathlib.Core.Logic.{_↔_}
 use Rattle.sums.specs.Fraction.{Frac, _over_, partsOf}
 use Rattle.sums.specs.declared.mixed.Mixed.{Mixed}
 use Rattle.sums.specs.declared.words.Words.{Words}
@@ -60,12 +62,20 @@ peakPrinted s = mixedOf peakDenominator (peakParts s)
 unfoldable pub nearest : Frac → ℕ
 nearest x = (2 * x .num + x .den) / (2 * x .den)
 
--- the figure of a sum
-abbrev pub annualFigure : AnnualSum → ℕ
-annualFigure s = nearest (annualParts s over annualDenominator)
+-- the same without a division, and by the letter: "rounded once to its last digit, so it lies within half of that digit, and an exact half goes up", each side twice over
+pub record Rounded (figure : ℕ) (x : Frac) : Type 0 where
+  pub number : 0 < x .den
+  pub largest : (n : ℕ) → (n ≤ figure) ↔ (n * (2 * x .den) ≤ 2 * x .num + x .den)
+  pub above : 2 * (figure * x .den) ≤ 2 * x .num + x .den
+  pub below : 2 * x .num < 2 * (figure * x .den) + x .den
+  pub half : (n : ℕ) → 2 * x .num + x .den ≡ 2 * (n * x .den) → figure ≡ n
 
-abbrev pub peakFigure : PeakSum → ℕ
-peakFigure s = nearest (peakParts s over peakDenominator)
+-- the figure of a sum
+abbrev pub annualRounded : AnnualSum → ℕ
+annualRounded s = nearest (annualParts s over annualDenominator)
+
+abbrev pub peakRounded : PeakSum → ℕ
+peakRounded s = nearest (peakParts s over peakDenominator)
 
 -- the sum of so many tonnes, and of so many grams per second
 abbrev pub annualSum : Frac → AnnualSum

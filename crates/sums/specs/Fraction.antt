@@ -40,6 +40,6 @@ totalTo zero f = whole 0
 totalTo (suc n) f = totalTo n f ⊞ f n
 
 -- how many whole parts of 1 / d are in x. Of a table's entry or a source's tonnes and grams it drops nothing: they are whole numbers of the parts that
--- they are counted in, which the proofs show (`Tables.Scaled`, `Sources.Exactly`)
+-- they are counted in, which the proofs show (`Tables.Scaled`, `Exactness.Exactly`)
 unfoldable pub partsOf : ℕ → Frac → ℕ
 partsOf d x = x .num * d / x .den

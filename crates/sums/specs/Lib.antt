@@ -5,3 +5,4 @@ pub mod Table
 pub mod Figures
 pub mod Answer
 pub mod Arithmetic
+pub mod Exactness

@@ -1,7 +1,7 @@
 // The exact annual sum.
 ghost use mathlib.Core.Path.{_≡_};
 ghost use Prim.Native.Nat.{_+_, _*_, _%_, _^_};
-ghost use Rattle.sums.specs.Figures.{annualOf, annualParts, annualPrinted, annualFigure};
+ghost use Rattle.sums.specs.Figures.{annualOf, annualParts, annualPrinted, annualRounded};
 use super::mixed::Mixed;
 use super::words::Words;
 
@@ -48,7 +48,7 @@ impl AnnualSum {
     }
 
     pub fn rounded(self) -> u64
-        ensures { λ r. ⌜ r ≡ annualFigure self % 2 ^ 64 ⌝ }
+        ensures { λ r. ⌜ r ≡ annualRounded self % 2 ^ 64 ⌝ }
     {
         let a = self.0;
         a.rounded(Self::DENOMINATOR)

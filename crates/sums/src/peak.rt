@@ -1,7 +1,7 @@
 // The exact peak sum.
 ghost use mathlib.Core.Path.{_≡_};
 ghost use Prim.Native.Nat.{_+_, _*_, _%_, _^_};
-ghost use Rattle.sums.specs.Figures.{peakOf, peakParts, peakPrinted, peakFigure};
+ghost use Rattle.sums.specs.Figures.{peakOf, peakParts, peakPrinted, peakRounded};
 use super::mixed::Mixed;
 use super::words::Words;
 
@@ -48,7 +48,7 @@ impl PeakSum {
     }
 
     pub fn rounded(self) -> u64
-        ensures { λ r. ⌜ r ≡ peakFigure self % 2 ^ 64 ⌝ }
+        ensures { λ r. ⌜ r ≡ peakRounded self % 2 ^ 64 ⌝ }
     {
         let a = self.0;
         a.rounded(Self::DENOMINATOR)

@@ -6,7 +6,7 @@ use mathlib.Core.List.{List}
 use lib.Dec.{ltb, eqb}
 use lib.ListN.{getD, set, length, replicate}
 use Rattle.sums.specs.Choice.{if_then_else, listTo}
-use Rattle.sums.specs.Figures.{unitsIn, wordsOf, annualFigure, peakFigure}
+use Rattle.sums.specs.Figures.{unitsIn, wordsOf, annualRounded, peakRounded}
 use Rattle.sums.specs.Answer.{Contribution, noEmission}
 use Rattle.sums.specs.declared.words.Words.{Words}
 use Rattle.sums.specs.declared.answer.Emission.{Emission}
@@ -60,10 +60,10 @@ plusToIn l es (suc n) = plusIn (plusToIn l es n) (getD es n noEmission)
 
 -- the figures of the code at place p, of which each has 64 bits
 abbrev pub annualIn : List ℕ → ℕ → ℕ
-annualIn l p = annualFigure (record { 0 = wordsAt l (sumPlace 0 p) }) % 2 ^ 64
+annualIn l p = annualRounded (record { 0 = wordsAt l (sumPlace 0 p) }) % 2 ^ 64
 
 abbrev pub peakIn : List ℕ → ℕ → ℕ
-peakIn l p = peakFigure (record { 0 = wordsAt l (sumPlace 1 p) }) % 2 ^ 64
+peakIn l p = peakRounded (record { 0 = wordsAt l (sumPlace 1 p) }) % 2 ^ 64
 
 unfoldable pub figuresOf : List ℕ → Figures
 figuresOf l = record { annual = listTo codeCount (annualIn l); peak = listTo codeCount (peakIn l) }

@@ -14,7 +14,8 @@ use Rattle.sums.specs.Fraction.{partsOf}
 use Rattle.sums.specs.Answer.{noEmission}
 use Rattle.sums.proofs.Choices.{listTo-at}
 use Rattle.sums.proofs.Products.{_⊗_}
-use Rattle.sums.proofs.Sources.{Bounded, bounded, Exactly, exactly}
+use Rattle.sums.specs.Exactness.{Bounded, Exactly}
+use Rattle.sums.proofs.Sources.{bounded, exactly}
 use Rattle.vehicles.specs.Fields.{groupInRange, coefficientsInRange, noCoefficients}
 use Rattle.vehicles.specs.Rules.{controlOf, annualTonnes, peakGrams, lowestOf, contributionOf, emissionOf, emissionCount, emissionsOf, inRange, notZero, groupAnswer}
 use Rattle.vehicles.specs.Parts.{conditionsAt, activityOf, ConditionsInRange, ActivityInRange, NeutraliserInRange, massParts, outParts, yearParts}

@@ -13,7 +13,7 @@ use Rattle.sums.specs.Fraction.{Frac, _over_, _≈_, partsOf}
 use Rattle.sums.specs.Figures.{tonneParts, gramParts}
 use Rattle.sums.proofs.Choices.{sumTo-times}
 use Rattle.sums.proofs.Fractions.{≈-refl, ≈-⊙, ≈-⊞, ≈-per, ≈-over, totalTo-parts, parts}
-use Rattle.sums.proofs.Sources.{Counted}
+use Rattle.sums.specs.Exactness.{Counted}
 use Rattle.vehicles.specs.Fields.{noMinute, noKilometre}
 use Rattle.vehicles.specs.Rules.{periodAt, minutesAt, runAndIdle, outGrams, inGrams, monthGrams, annualTonnes, peakGrams, controlOf, lowestOf, emissionOf}
 use Rattle.vehicles.specs.Parts.{conditionsAt, distanceSum, monthConditions, monthPeriod, monthWarmup, monthRun, monthIdle, activityOf, runAndIdleParts, massParts, outParts, yearParts, yearUnits, peakUnits, emissionParts}

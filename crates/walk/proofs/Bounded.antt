@@ -11,8 +11,7 @@ use lib.ListN.{getD, length, length-append}
 use Rattle.sums.specs.Fraction.{Frac, partsOf}
 use Rattle.sums.specs.Answer.{Contribution}
 use Rattle.sums.proofs.Choices.{both, sumTo-share}
-use Rattle.sums.proofs.Exact.{sourcesMost}
-use Rattle.sums.proofs.Sources.{Bounded}
+use Rattle.sums.specs.Exactness.{sourcesMost, Bounded}
 use Rattle.stores.specs.Rules.{handlingContribution, standingContribution, aspirationContribution}
 use Rattle.stores.proofs.Bounds.{handling-bounded, standing-bounded, aspiration-bounded}
 use Rattle.vehicles.specs.Fields.{noCoefficients}

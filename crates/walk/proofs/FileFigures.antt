@@ -10,14 +10,13 @@ use lib.ListN.{getD}
 use borrow.Author.Tests.{eq-eqb}
 use Rattle.sums.specs.Choice.{listTo}
 use Rattle.sums.specs.Fraction.{Frac, _over_, whole, _⊙_, _≈_, partsOf}
-use Rattle.sums.specs.Figures as sum
-use Rattle.sums.specs.Figures.{annualDenominator, peakDenominator, unitsIn, wordsOf, nearest, annualOf, peakOf}
+use Rattle.sums.specs.Figures.{annualDenominator, peakDenominator, unitsIn, wordsOf, nearest, annualOf, peakOf, annualRounded, peakRounded}
 use Rattle.sums.specs.Answer.{Contribution}
 use Rattle.sums.specs.declared.words.Words.{Words}
 use Rattle.sums.proofs.Choices.{yes, listTo-same}
-use Rattle.sums.proofs.Exact.{annualMost, peakMost, sourcesMost, figure-exact}
+use Rattle.sums.specs.Exactness.{annualMost, peakMost, sourcesMost, Bounded}
+use Rattle.sums.proofs.Exact.{figure-exact}
 use Rattle.sums.proofs.Figure.{nearest-same}
-use Rattle.sums.proofs.Sources.{Bounded}
 use Rattle.slots.specs.declared.store.Store.{Store}
 use Rattle.slot_file.specs.Sources.{VehicleGroup, groupAt, storeAt, temperaturesAt, Chains, inventoryAt}
 use Rattle.slot_file.specs.Meaning.{Accepts}
@@ -75,13 +74,13 @@ module _ (s : List ℕ) (b : Chains) where
           ∙ ap (λ (n : ℕ). nearest ((n * u) over (u * d * 1))) (units-are (partsTo f (u * d) c))
           ∙ nearest-same (in-printed-units units u d pd pk))
 
-    annual-figured : (c : ℕ) → sum.annualFigure (annualOf (sumsOf s b 0 c)) % 2 ^ 64 ≡ annualFigure (contributions (inventoryAt s b)) c
+    annual-figured : (c : ℕ) → annualRounded (annualOf (sumsOf s b 0 c)) % 2 ^ 64 ≡ annualFigure (contributions (inventoryAt s b)) c
     unfolding annualFigure column
     annual-figured =
         figured (λ (x : Contribution). x .tonnes) 1000000 annualDenominator annualMost (lit< tt) (lit< tt) (omega arith) (lit< tt) (λ (x : Contribution) (h : Units x). h .annual)
         (λ (n : ℕ) (x : Contribution) (b : Bounded n (x .tonnes) (x .rate)). b .annual)
 
-    peak-figured : (c : ℕ) → sum.peakFigure (peakOf (sumsOf s b 1 c)) % 2 ^ 64 ≡ peakFigure (contributions (inventoryAt s b)) c
+    peak-figured : (c : ℕ) → peakRounded (peakOf (sumsOf s b 1 c)) % 2 ^ 64 ≡ peakFigure (contributions (inventoryAt s b)) c
     unfolding peakFigure column
     peak-figured =
         figured (λ (x : Contribution). x .rate) 10000000 peakDenominator peakMost (lit< tt) (lit< tt) (omega arith) (lit< tt) (λ (x : Contribution) (h : Units x). h .peak)
@@ -96,7 +95,7 @@ module _ (s : List ℕ) (b : Chains) where
     file-figures l h =
         let xs = contributions (inventoryAt s b) in
         let a = listTo-same codeCount (annualIn l) (λ (p : ℕ). annualFigure xs (getD codes p 0))
-        (λ p k. ap (λ (m : Words). sum.annualFigure (record { 0 = m }) % 2 ^ 64) (h .sums-are 0 p (lit< tt) k) ∙ annual-figured (getD codes p 0)) in
+        (λ p k. ap (λ (m : Words). annualRounded (record { 0 = m }) % 2 ^ 64) (h .sums-are 0 p (lit< tt) k) ∙ annual-figured (getD codes p 0)) in
         let p = listTo-same codeCount (peakIn l) (λ (p : ℕ). peakFigure xs (getD codes p 0))
-        (λ p k. ap (λ (m : Words). sum.peakFigure (record { 0 = m }) % 2 ^ 64) (h .sums-are 1 p (lit< tt) k) ∙ peak-figured (getD codes p 0)) in
+        (λ p k. ap (λ (m : Words). peakRounded (record { 0 = m }) % 2 ^ 64) (h .sums-are 1 p (lit< tt) k) ∙ peak-figured (getD codes p 0)) in
         sym (yes _ _ _ _ (eq-eqb _ _ (h .room)) refl) ∙ (λ i. record { annual = a i; peak = p i })

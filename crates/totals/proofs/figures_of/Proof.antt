@@ -3,7 +3,7 @@ use native.Mathlib.Omega.{arith}
 use mathlib.Core.Path.{_≡_, refl, ap, _∙_}
 use Prim.Native.Nat.{ℕ, _≤_, _<_, _-_, _%_, _^_}
 use lib.ListN.{getD, length, length-set}
-use Rattle.sums.specs.Figures.{annualFigure, peakFigure}
+use Rattle.sums.specs.Figures.{annualRounded, peakRounded}
 use Rattle.sums.specs.declared.words.Words.{Words}
 use Rattle.sums.proofs.Choices.{filled, listTo-is}
 use Rattle.slot_file.specs.Codes.{codeCount}
@@ -28,8 +28,8 @@ loop-again c =
     let b = r .before .before .before in
     let l = b .before .before .args .totals .now in
     let i = b .loop .i in
-    let a = r .rounded .ensures ∙ ap (λ (m : Words). annualFigure (record { 0 = m }) % 2 ^ 64) (r .before .sum-at .ensures) in
-    let p = c .rounded2 .ensures ∙ ap (λ (m : Words). peakFigure (record { 0 = m }) % 2 ^ 64) (c .before .sum-at2 .ensures) in (
+    let a = r .rounded .ensures ∙ ap (λ (m : Words). annualRounded (record { 0 = m }) % 2 ^ 64) (r .before .sum-at .ensures) in
+    let p = c .rounded2 .ensures ∙ ap (λ (m : Words). peakRounded (record { 0 = m }) % 2 ^ 64) (c .before .sum-at2 .ensures) in (
       omega arith,
       simp length-set (b .loop .inv .1),
       simp length-set (b .loop .inv .2),
