@@ -1,11 +1,13 @@
--- Demand 3: two accepted files that are alike get the same answers. A figure goes by the number of exact units of its code alone (`Units`), which is a total over
--- the groups and one over the store records, and lists that are alike have the same totals and the same length (`Bag`, `Same`). Assumes nothing.
+-- Two accepted files that are alike get the same answers. A figure goes by the number of exact units of its code alone (`Units`), which is a total over
+-- the groups and one over the store records, and lists that are alike have the same totals and the same length (`Bag`, `Same`). And the counts are the lengths of the chains. Assumes
+-- nothing.
 use Prim.Native.Nat.{ℕ, _*_, _<_}
 use native.Mathlib.Omega.{arith}
 use mathlib.Core.Path.{_≡_, sym, ap, _∙_}
-use mathlib.Core.List.{List, map}
+use mathlib.Core.List.{List, map, reverse}
 use lib.Dec.{lit<}
 use lib.IntN.{ℤ}
+use lib.ListN.{length-map, length-reverse}
 use Rattle.sums.specs.Fraction.{Frac, _over_, whole, _⊙_, _≈_, partsOf}
 use Rattle.sums.specs.Figures.{nearest, tonneParts, gramParts}
 use Rattle.sums.proofs.Figure.{nearest-same}
@@ -13,8 +15,8 @@ use Rattle.sums.specs.Answer.{Contribution}
 use Rattle.slots.specs.declared.store.Store.{Store}
 use Rattle.slot_file.specs.Questions.{accepted}
 use Rattle.slot_file.specs.Walk.{verdict}
-use Rattle.slot_file.specs.Sources.{VehicleGroup, Chains, Inventory, inventoryAt}
-use Rattle.slot_file.specs.Figures.{groupContributions, storeContributions, contributions, exactSum, annualFigure, peakFigure, summed, answered, answer}
+use Rattle.slot_file.specs.Sources.{VehicleGroup, groupAt, storeAt, Chains, Inventory, inventoryAt}
+use Rattle.slot_file.specs.Figures.{groupContributions, storeContributions, contributions, exactSum, annualFigure, peakFigure, countsOf, summed, answered, answer}
 use Rattle.slot_file.specs.Codes.{codes}
 use Rattle.slot_file.specs.Alike.{total, sameGroup, sameStore, AlikeFiles}
 use Rattle.slot_file.proofs.Bag.{alike-total, alike-length}
@@ -55,8 +57,10 @@ pub accepted-answer : (s : List ℕ) (c : Chains) → verdict s ≡ accepted c �
 unfolding answer answered
 accepted-answer s c e = rw e
 
--- DEMAND 3: "Every two such files alike in the twelve temperatures, month by month, in their vehicle groups, each with its own coefficients for the six pollutants,
--- and in their store records, repeats included, get the same answers: every annual figure, every peak figure and both counts. This holds whatever order either file
--- has its slots and chains in, and however either shares its coefficient slots": the two accepted files are s and t, with any chains
-pub agreement : (s t : List ℕ) (c d : Chains) → verdict s ≡ accepted c → verdict t ≡ accepted d → AlikeFiles (inventoryAt s c) (inventoryAt t d) → answer s ≡ answer t
-agreement s t c d p q a = accepted-answer s c p ∙ same-answer (inventoryAt s c) (inventoryAt t d) a ∙ sym (accepted-answer t d q)
+-- the sources of the chains are as many as their slots
+pub summed-counts : (s : List ℕ) (c : Chains) → summed (inventoryAt s c) .counts ≡ countsOf c
+unfolding summed inventoryAt
+summed-counts s c =
+    let g = length-map (reverse (c .groups)) (groupAt s) ∙ length-reverse (c .groups) in
+    let k = length-map (reverse (c .stores)) (storeAt s) ∙ length-reverse (c .stores) in
+    λ i. record { groups = g i; stores = k i }

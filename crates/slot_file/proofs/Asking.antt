@@ -1,10 +1,11 @@
--- The outcome of a list of questions: by the first that is answered no, and by what follows where none is. Assumes nothing.
-use Prim.Native.Nat.{ℕ}
+-- The outcome of a list of questions: by the first that is answered no, and by what follows where none is; and what is answered along an append of lists. Assumes
+-- nothing.
+use Prim.Native.Nat.{ℕ, zero, suc}
 use mathlib.Core.Path.{_≡_, refl}
 use mathlib.Core.Bool.{Bool, true, false}
-use mathlib.Core.List.{List, [], _∷_}
+use mathlib.Core.List.{List, [], _∷_, _++_}
 use Rattle.sums.specs.Choice.{if_then_else}
-use Rattle.slot_file.specs.Questions.{Question, Verdict, refused}
+use Rattle.slot_file.specs.Questions.{Question, question, Verdict, refused}
 use Rattle.slot_file.specs.Walk.{first}
 use Rattle.slot_file.specs.Meaning.{AllYes, FirstNo, here, later}
 
@@ -27,3 +28,35 @@ first-both P (q ∷ qs) v h k = go (q .answer) refl (first-both P qs v)
     go : (t : Bool) → q .answer ≡ t → (((n k : ℕ) → FirstNo qs n k → P (refused n k)) → (AllYes qs → P v) → P (first qs v)) → P (if_then_else t (first qs v) (refused (q .number) (q .slot)))
     go true e ih = ih (λ n j f. h n j (later q qs e f)) (λ a. k (e, a))
     go false e ih = h (q .number) (q .slot) (here q qs e)
+
+-- the question at a place, from 0; behind the last, one that is answered yes
+abbrev pub askedAt : List Question → ℕ → Question
+askedAt [] n = question true 0 0
+askedAt (q ∷ qs) zero = q
+askedAt (q ∷ qs) (suc n) = askedAt qs n
+
+pub yes-at : (qs : List Question) → AllYes qs → (n : ℕ) → askedAt qs n .answer ≡ true
+yes-at [] a n = refl
+yes-at (q ∷ qs) a zero = a .0
+yes-at (q ∷ qs) a (suc n) = yes-at qs (a .1) n
+
+-- along an append of lists
+pub all-append : (xs ys : List Question) → AllYes xs → AllYes ys → AllYes (xs ++ ys)
+all-append [] ys a b = b
+all-append (x ∷ xs) ys a b = (a .0, all-append xs ys (a .1) b)
+
+pub all-left : (xs ys : List Question) → AllYes (xs ++ ys) → AllYes xs
+all-left [] ys a = tt
+all-left (x ∷ xs) ys a = (a .0, all-left xs ys (a .1))
+
+pub all-right : (xs ys : List Question) → AllYes (xs ++ ys) → AllYes ys
+all-right [] ys a = a
+all-right (x ∷ xs) ys a = all-right xs ys (a .1)
+
+pub no-before : {n k : ℕ} (xs ys : List Question) → FirstNo xs n k → FirstNo (xs ++ ys) n k
+no-before xs ys (here q qs e) = here q (qs ++ ys) e
+no-before xs ys (later q qs e f) = later q (qs ++ ys) e (no-before qs ys f)
+
+pub no-after : {n k : ℕ} (xs ys : List Question) → AllYes xs → FirstNo ys n k → FirstNo (xs ++ ys) n k
+no-after [] ys a f = f
+no-after (x ∷ xs) ys a f = later x (xs ++ ys) (a .0) (no-after xs ys (a .1) f)

@@ -1,5 +1,7 @@
--- The laws that belong to no one function. A reader of the letter wants Verdicts (its demand 1), Rounded (its demand 2) and Agreement (its demand 3).
+-- The laws that belong to no one function. A reader of the letter wants Demands.
 pub mod Asking
+pub mod SixRows
+pub mod Ranged
 pub mod Marks
 pub mod Chains
 pub mod Verdicts
@@ -9,5 +11,5 @@ pub mod Bag
 pub mod Same
 pub mod Units
 pub mod Agreement
-pub mod Rounded
+pub mod Demands
 pub mod Examples

@@ -1,16 +1,15 @@
--- A refusal of a file has a number from 1 to the last, so an answer's number is 0 exactly where the file is accepted: the numbers stand in the questions. Assumes nothing.
+-- A refusal of a file has a number from 1 to the last: the numbers stand in the questions. Assumes nothing.
 use Prim.Native.Nat.{ℕ, zero, suc, _+_, _≤_}
 use native.Mathlib.Omega.{arith}
 use mathlib.Core.Path.{_≡_}
+use mathlib.Core.Bool.{Bool}
 use mathlib.Core.List.{List, [], _∷_, _++_}
 use Rattle.vehicles.specs.Fields.{pollutantCount}
-use Rattle.slots.specs.Bytes.{slotOf}
-use Rattle.slots.specs.Layout.{groupRead, readStore, readNumber}
 use Rattle.slot_file.specs.Sources.{Chains}
-use Rattle.slot_file.specs.Questions.{lastNumber, Question, lastOf, headAsks, sourcesOf, groupsSoFar, storesSoFar, linkAsks, coefficientAsks, rowsAsks, closingAsks, groupAsks, storeAsks, reachAsks, lastAsks, accepted, refused}
+use Rattle.slot_file.specs.Questions.{lastNumber, Question, headAsks, groupsSoFar, storesSoFar, linkAsks, coefficientAsks, rowsAsks, closingAsks, groupLinkAsks, groupAsks, storeAsks, reachAsks, lastAsks, refused}
 use Rattle.slot_file.specs.Walk.{verdict}
 use Rattle.slot_file.specs.Meaning.{FirstNo, here, later, Refuses, at-head, at-group, at-store, at-last}
-use Rattle.slot_file.specs.Figures.{refusal, answered, answer, summed}
+use Rattle.slot_file.specs.Figures.{refusal, answered, answer}
 use Rattle.slot_file.proofs.Verdicts.{exactly-when}
 
 -- each question has a number from 1 to the last
@@ -34,9 +33,9 @@ coefficient-numbered : (s : List ℕ) (g n : ℕ) → Numbered (coefficientAsks 
 unfolding coefficientAsks
 coefficient-numbered s g n = omega arith
 
-link-numbered : (s : List ℕ) (h : ℕ) (b : List ℕ) (k n : ℕ) → Numbered (linkAsks s h b k n)
+link-numbered : (s : List ℕ) (h : ℕ) (b : List ℕ) (k : ℕ) (kind good : Bool) → Numbered (linkAsks s h b k kind good)
 unfolding linkAsks
-link-numbered s h b k n = omega arith
+link-numbered s h b k kind good = omega arith
 
 closing-numbered : (s : List ℕ) (g : ℕ) → Numbered (closingAsks s g)
 unfolding closingAsks
@@ -50,13 +49,13 @@ rows-numbered s g (suc n) = numbered-append (rowsAsks s g n) (coefficientAsks s 
 group-numbered : (s : List ℕ) (c : Chains) (g : ℕ) → Numbered (groupAsks s c g)
 unfolding groupAsks
 group-numbered s c g =
-    let l = linkAsks s (lastOf (c .groups)) (sourcesOf c) g (groupRead (slotOf s g) .number) in
+    let l = groupLinkAsks s c g in
     numbered-append (l ++ rowsAsks s g pollutantCount) (closingAsks s g)
-    (numbered-append l (rowsAsks s g pollutantCount) (link-numbered s (lastOf (c .groups)) (sourcesOf c) g (groupRead (slotOf s g) .number)) (rows-numbered s g pollutantCount)) (closing-numbered s g)
+    (numbered-append l (rowsAsks s g pollutantCount) (link-numbered s _ _ g _ _) (rows-numbered s g pollutantCount)) (closing-numbered s g)
 
 store-numbered : (s : List ℕ) (c : Chains) (k : ℕ) → Numbered (storeAsks s c k)
 unfolding storeAsks
-store-numbered s c k = link-numbered s (lastOf (c .stores)) (sourcesOf c) k (readNumber (readStore (slotOf s k)))
+store-numbered s c k = link-numbered s _ _ k _ _
 
 reach-numbered : (n i : ℕ) (l : List ℕ) → Numbered (reachAsks n i l)
 unfolding reachAsks
@@ -73,11 +72,7 @@ refused-number s n k (at-group c j h v z f) = first-numbered _ n k (group-number
 refused-number s n k (at-store c j h v w z f) = first-numbered _ n k (store-numbered s (storesSoFar c (c .stores)) j) f
 refused-number s n k (at-last c h v w f) = first-numbered _ n k (last-numbered s c) f
 
--- the answer of a refused file has its number, from 1 to the last, and its slot, and all else zero; of an accepted one, the number 0
+-- the answer of a refused file has its number, from 1 to the last, and its slot, and all else zero
 pub refused-answer : (s : List ℕ) (n k : ℕ) → verdict s ≡ refused n k → (answer s ≡ refusal n k) × (1 ≤ n) × (n ≤ lastNumber)
 unfolding answer answered
 refused-answer s n k e = let r = refused-number s n k (exactly-when s (refused n k) .0 e) in (rw e, r .0, r .1)
-
-pub accepted-number : (s : List ℕ) (c : Chains) → verdict s ≡ accepted c → answer s .number ≡ 0
-unfolding answer answered summed
-accepted-number s c e = rw e

@@ -13,10 +13,11 @@ use Rattle.vehicles.specs.declared.units.PerKilometre.{PerKilometre}
 use Rattle.vehicles.specs.declared.group.Group.{Group}
 use Rattle.vehicles.specs.declared.group.Coefficients.{Coefficients}
 use Rattle.stores.specs.declared.records.Bulk.{Bulk}
+use Rattle.slots.specs.Layout.{storeFields}
 use Rattle.slots.specs.declared.store.Store.{Store}
 use Rattle.slots.specs.declared.store.Store.the-variants.{Handling, Standing, Aspiration}
 use Rattle.slot_file.specs.Sources.{VehicleGroup}
-use Rattle.slot_file.specs.Alike.{sameBool, sameList, sameMinute, sameKilometre, coefficientTests, sameCoefficients, groupNumbers, groupTests, sameGroup, storeFields, sameStore}
+use Rattle.slot_file.specs.Alike.{sameBool, sameList, sameMinute, sameKilometre, coefficientTests, sameCoefficients, groupFields, groupTests, sameGroup, sameStore}
 
 bool-sound : (a b : Bool) → sameBool a b ≡ true → a ≡ b
 bool-sound true true e = refl
@@ -86,7 +87,7 @@ pub group-sound : (x y : VehicleGroup) → sameGroup x y ≡ true → x ≡ y
 unfolding sameGroup groupFrom
 group-sound x y e =
     let t = nth (groupTests x y) e in
-    let n = list-sound eqb eqb-true (groupNumbers (x .group)) (groupNumbers (y .group)) (t 0) in
+    let n = list-sound eqb eqb-true (groupFields (x .group)) (groupFields (y .group)) (t 0) in
     let c = bool-sound (x .group .controlled) (y .group .controlled) (t 1) in
     let h = bool-sound (x .group .heated) (y .group .heated) (t 2) in
     let d = list-sound eqb eqb-true (x .group .days) (y .group .days) (t 3) in
@@ -97,7 +98,7 @@ pub group-same : (x : VehicleGroup) → sameGroup x x ≡ true
 unfolding sameGroup
 group-same x =
     simp (
-      list-same eqb number-same (groupNumbers (x .group)),
+      list-same eqb number-same (groupFields (x .group)),
       bool-same,
       list-same eqb number-same (x .group .days),
       list-same sameCoefficients coefficients-same,

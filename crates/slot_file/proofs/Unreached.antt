@@ -9,6 +9,7 @@ use native.Mathlib.Decide.{decLt}
 use Rattle.slot_file.specs.Sources.{Chains}
 use Rattle.slot_file.specs.Questions.{Question, question, slotCount, member, reachedOf, reachAsks, lastAsks}
 use Rattle.slot_file.specs.Meaning.{AllYes, FirstNo, here, later, Accepts}
+use Rattle.slot_file.specs.Demands.{LowestUnreached}
 
 all-in : (n i : ℕ) (l : List ℕ) → AllYes (reachAsks n i l) → (j : ℕ) → i ≤ j → j < i + n → member j l ≡ true
 unfolding reachAsks
@@ -21,12 +22,12 @@ pub all-reached : (s : List ℕ) (c : Chains) → Accepts s c → (j : ℕ) → 
 unfolding lastAsks
 all-reached s c a j p q = all-in (slotCount s - 1) 1 (reachedOf s c) (a .last) j p (omega arith)
 
-pub record Lowest (n i : ℕ) (l : List ℕ) (m k : ℕ) : Type 0 where
-  pub number : m ≡ 12
-  pub from : i ≤ k
-  pub below : k < i + n
-  pub out : member k l ≡ false
-  pub lower : (j : ℕ) → i ≤ j → j < k → member j l ≡ true
+record Lowest (n i : ℕ) (l : List ℕ) (m k : ℕ) : Type 0 where
+  number : m ≡ 12
+  from : i ≤ k
+  below : k < i + n
+  out : member k l ≡ false
+  lower : (j : ℕ) → i ≤ j → j < k → member j l ≡ true
 
 -- a first no is the head, or in the tail
 split : {P : Type 0} (q : Question) (qs : List Question) (n k : ℕ) → FirstNo (q ∷ qs) n k → (q .answer ≡ false → n ≡ q .number → k ≡ q .slot → P) → (q .answer ≡ true → FirstNo qs n k → P) → P
@@ -53,6 +54,8 @@ lowest-no (suc n) i l m k f =
     })
 
 -- the slot of a refusal by the last questions is the lowest that is not reached
-pub lowest-unreached : (s : List ℕ) (c : Chains) (n k : ℕ) → FirstNo (lastAsks s c) n k → Lowest (slotCount s - 1) 1 (reachedOf s c) n k
+pub lowest-unreached : (s : List ℕ) (c : Chains) (n k : ℕ) → FirstNo (lastAsks s c) n k → LowestUnreached s c n k
 unfolding lastAsks
-lowest-unreached s c n k f = lowest-no (slotCount s - 1) 1 (reachedOf s c) n k f
+lowest-unreached s c n k f =
+    let h = lowest-no (slotCount s - 1) 1 (reachedOf s c) n k f in
+    record { number = h .number; from = h .from; below = omega arith; out = h .out; lower = h .lower }

@@ -10,9 +10,8 @@ use Rattle.vehicles.specs.declared.units.PerMinute.{PerMinute}
 use Rattle.vehicles.specs.declared.units.PerKilometre.{PerKilometre}
 use Rattle.vehicles.specs.declared.group.Group.{Group}
 use Rattle.vehicles.specs.declared.group.Coefficients.{Coefficients}
-use Rattle.stores.specs.declared.records.Bulk.{Bulk}
+use Rattle.slots.specs.Layout.{storeFields}
 use Rattle.slots.specs.declared.store.Store.{Store}
-use Rattle.slots.specs.declared.store.Store.the-variants.{Handling, Standing, Aspiration}
 use Rattle.slot_file.specs.Sources.{VehicleGroup, Inventory}
 
 abbrev pub sameBool : Bool → Bool → Bool
@@ -27,8 +26,8 @@ sameList same (x ∷ xs) [] = false
 sameList same (x ∷ xs) (y ∷ ys) = same x y && sameList same xs ys
 
 -- a group's fields that are one number each
-abbrev pub groupNumbers : Group → List ℕ
-groupNumbers g =
+abbrev pub groupFields : Group → List ℕ
+groupFields g =
     g .category ∷ g .fuel ∷ g .vehicles ∷ g .leaving ∷ g .share ∷ g .neutraliser .running ∷ g .neutraliser .warming ∷ g .idle .0
     ∷ g .outward .nearest .0 ∷ g .outward .farthest .0 ∷ g .inward .nearest .0 ∷ g .inward .farthest .0 ∷ []
 
@@ -49,22 +48,14 @@ sameCoefficients x y = allOf (coefficientTests x y)
 -- the same seven coefficients for each of the six pollutants"
 abbrev pub groupTests : VehicleGroup → VehicleGroup → List Bool
 groupTests x y =
-    sameList eqb (groupNumbers (x .group)) (groupNumbers (y .group)) ∷ sameBool (x .group .controlled) (y .group .controlled)
+    sameList eqb (groupFields (x .group)) (groupFields (y .group)) ∷ sameBool (x .group .controlled) (y .group .controlled)
     ∷ sameBool (x .group .heated) (y .group .heated) ∷ sameList eqb (x .group .days) (y .group .days)
     ∷ sameList sameCoefficients (x .coefficients) (y .coefficients) ∷ []
 
 unfoldable pub sameGroup : VehicleGroup → VehicleGroup → Bool
 sameGroup x y = allOf (groupTests x y)
 
-abbrev pub bulkNumbers : Bulk → List ℕ
-bulkNumbers b = b .dust ∷ b .store ∷ b .material ∷ b .wind ∷ b .moisture ∷ b .grain ∷ b .openness ∷ b .amount ∷ []
-
--- a store record's kind and fields
-abbrev pub storeFields : Store → List ℕ
-storeFields (Handling h) = 3 ∷ h .drop ∷ bulkNumbers (h .bulk)
-storeFields (Standing s) = 4 ∷ s .k6 ∷ bulkNumbers (s .bulk)
-storeFields (Aspiration a) = 5 ∷ a .dust ∷ a .store ∷ a .concentration ∷ a .flow ∷ a .capture ∷ a .hours ∷ []
-
+-- of a store record, its kind and every field
 unfoldable pub sameStore : Store → Store → Bool
 sameStore x y = sameList eqb (storeFields x) (storeFields y)
 

@@ -1,5 +1,5 @@
 -- What a slot file answers, by definition. A reader of 01 wants, in this order: Sources, Questions, Walk, Codes, Figures, Alike, Listing, Surveyed; Meaning says what a verdict
--- means in words that know no walk. Parts has what the code's marks and sums hold.
+-- means in words that know no walk, and Demands what the letter demands. Parts has what the code's marks and sums hold.
 pub mod Sources
 pub mod Questions
 pub mod Walk
@@ -9,4 +9,5 @@ pub mod Figures
 pub mod Alike
 pub mod Listing
 pub mod Surveyed
+pub mod Demands
 pub mod Parts

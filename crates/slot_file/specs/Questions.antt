@@ -8,7 +8,7 @@ use Rattle.sums.specs.Choice.{if_then_else}
 use Rattle.vehicles.specs.Fields.{pollutantCount, temperaturesInRange}
 use Rattle.vehicles.specs.Rules.{notZero}
 use Rattle.slots.specs.Bytes.{slotSize, slotOf}
-use Rattle.slots.specs.Layout.{groupRead, coefficientsRead, readStore, readNumber}
+use Rattle.slots.specs.Layout.{groupOf, groupGood, groupKind, coefficientsOf, coefficientsGood, coefficientsKind, coefficientsRead, storeKind, storeGood}
 use Rattle.slot_file.specs.Sources.{coefficientSlot, groupAt, headerAt, Chains}
 
 pub record Question : Type 0 where
@@ -54,17 +54,20 @@ unfoldable pub member : ℕ → List ℕ → Bool
 member k [] = false
 member k (x ∷ xs) = if_then_else (eqb k x) true (member k xs)
 
--- "Has it a kind this chain carries?" and "Is each field in range and every unnamed byte zero?", of a slot k by the number that its read has
-abbrev pub readAsks : ℕ → ℕ → List Question
-readAsks number k = question (not (eqb number 8)) 8 k ∷ question (not (eqb number 9)) 9 k ∷ []
+-- of a slot k, by its kind and by its fields and unnamed bytes
+abbrev pub slotAsks : Bool → Bool → ℕ → List Question
+slotAsks kind good k =
+    question kind 8 k  -- "Has it a kind this chain carries?"
+    ∷ question good 9 k  -- "Is each field in range and every unnamed byte zero?"
+    ∷ []
 
 -- "At each nonzero link 6, 7, 8 and 9 are asked": of a link k, which the slot `holder` holds, where `before` are the slots reached before as groups and store
 -- records; the refusal's slot is "the slot holding the link for 6", else "the slot asked about"
-unfoldable pub linkAsks : List ℕ → ℕ → List ℕ → ℕ → ℕ → List Question
-linkAsks s holder before k number =
+unfoldable pub linkAsks : List ℕ → ℕ → List ℕ → ℕ → Bool → Bool → List Question
+linkAsks s holder before k kind good =
     question (ltb k (slotCount s)) 6 holder  -- "Is the link below the slot count?"
     ∷ question (not (member k before)) 7 k  -- "Is the slot new on this walk as a group or store record?"
-    ∷ readAsks number k
+    ∷ slotAsks kind good k
 
 -- the slot that holds the link to a group's coefficient slot at place n
 unfoldable pub coefficientHolder : List ℕ → ℕ → ℕ → ℕ
@@ -75,10 +78,12 @@ coefficientHolder s g (suc n) = coefficientSlot s g n
 -- link for 6 and for a zero link under 10"
 unfoldable pub coefficientAsks : List ℕ → ℕ → ℕ → List Question
 coefficientAsks s g n =
-    question (not (eqb (coefficientSlot s g n) 0)) 10 (coefficientHolder s g n)
-    ∷ question (ltb (coefficientSlot s g n) (slotCount s)) 6 (coefficientHolder s g n)
-    ∷ readAsks (coefficientsRead (slotOf s (coefficientSlot s g n)) .number) (coefficientSlot s g n)
-    ++ question (eqb (coefficientsRead (slotOf s (coefficientSlot s g n)) .pollutant) (n + 1)) 10 (coefficientSlot s g n)
+    let k = coefficientSlot s g n in
+    let t = slotOf s k in
+    question (not (eqb k 0)) 10 (coefficientHolder s g n)
+    ∷ question (ltb k (slotCount s)) 6 (coefficientHolder s g n)
+    ∷ slotAsks (coefficientsKind t) (coefficientsGood t (coefficientsOf t)) k
+    ++ question (eqb (coefficientsRead t .pollutant) (n + 1)) 10 k
     ∷ []
 
 -- of the first n of them
@@ -126,13 +131,19 @@ groupsSoFar b = record { groups = b; stores = [] }
 abbrev pub storesSoFar : Chains → List ℕ → Chains
 storesSoFar c b = record { groups = c .groups; stores = b }
 
--- all that is asked of a link g to a group, and of a link k to a store record, by the chains so far
+-- of a link g to a group and of a link k to a store record, by the chains so far; and all that is asked of the group
+abbrev pub groupLinkAsks : List ℕ → Chains → ℕ → List Question
+groupLinkAsks s c g =
+    let t = slotOf s g in
+    linkAsks s (lastOf (c .groups)) (sourcesOf c) g (groupKind t) (groupGood t (groupOf t))
+
 unfoldable pub groupAsks : List ℕ → Chains → ℕ → List Question
-groupAsks s c g =
-    linkAsks s (lastOf (c .groups)) (sourcesOf c) g (groupRead (slotOf s g) .number) ++ rowsAsks s g pollutantCount ++ closingAsks s g
+groupAsks s c g = groupLinkAsks s c g ++ rowsAsks s g pollutantCount ++ closingAsks s g
 
 unfoldable pub storeAsks : List ℕ → Chains → ℕ → List Question
-storeAsks s c k = linkAsks s (lastOf (c .stores)) (sourcesOf c) k (readNumber (readStore (slotOf s k)))
+storeAsks s c k =
+    let t = slotOf s k in
+    linkAsks s (lastOf (c .stores)) (sourcesOf c) k (storeKind t) (storeGood t)
 
 -- "Is each slot from 1 up reached?": n slots from i up, so that the first that is not is "the lowest unreached"
 unfoldable pub reachAsks : ℕ → ℕ → List ℕ → List Question

@@ -1,16 +1,15 @@
--- The number of a store record's read is that of questions 8 and 9, and where it is 0 the read is the record: by the kind, and whether its tests hold. Assumes
+-- The number of a store record's read is that of questions 8 and 9, and its values are the record's where that is 0: by the kind, and whether its tests hold. Assumes
 -- nothing.
-use native.Mathlib.Omega.{arith}
 use mathlib.Core.Path.{_≡_, refl, ap, _∙_}
-use mathlib.Core.Bool.{Bool, true, false}
-use mathlib.Core.List.{List}
+use mathlib.Core.Bool.{Bool, true, false, _&&_}
+use mathlib.Core.List.{List, []}
 use Prim.Native.Nat.{ℕ}
 use Rattle.sums.specs.Choice.{if_then_else}
 use Rattle.slots.specs.Bytes.{numberOf}
-use Rattle.slots.specs.Layout.{storeKind, storeOf, storeGood, readBy, readStore, readNumber, StoreReads}
+use Rattle.slots.specs.Layout.{storeKind, storeOf, storeGood, readBy, readStore, storeFields, readNumber, readValues, StoreReads}
 use Rattle.slots.specs.declared.store.Store.{Store}
 use Rattle.slots.specs.declared.store.StoreRead.{StoreRead}
-use Rattle.slots.specs.declared.store.StoreRead.the-variants.{Record, WrongKind}
+use Rattle.slots.specs.declared.store.StoreRead.the-variants.{WrongKind}
 
 numbered : (kind good : Bool) (r : Store) → readNumber (if_then_else kind (readBy good r) WrongKind) ≡ numberOf kind good
 unfolding if_then_else readBy numberOf
@@ -18,16 +17,16 @@ numbered true true r = refl
 numbered true false r = refl
 numbered false good r = refl
 
-pub with-number : (t : List ℕ) (r : StoreRead) → r ≡ readStore t → StoreReads t r
-unfolding readStore
-with-number t r e = (e, ap (λ (x : StoreRead). readNumber x) e ∙ numbered (storeKind t) (storeGood t) (storeOf t))
-
-recorded : (kind good : Bool) (r : Store) → readNumber (if_then_else kind (readBy good r) WrongKind) ≡ 0 → if_then_else kind (readBy good r) WrongKind ≡ Record r
+valued : (kind good : Bool) (r : Store) → readValues (if_then_else kind (readBy good r) WrongKind) ≡ if_then_else (kind && good) (storeFields r) []
 unfolding if_then_else readBy
-recorded true true r e = refl
-recorded true false r e = absurd (omega arith)
-recorded false good r e = absurd (omega arith)
+valued true true r = refl
+valued true false r = refl
+valued false good r = refl
 
-pub read-record : (t : List ℕ) → readNumber (readStore t) ≡ 0 → readStore t ≡ Record (storeOf t)
+pub right-read : (t : List ℕ) (r : StoreRead) → r ≡ readStore t → StoreReads t r
 unfolding readStore
-read-record t = recorded (storeKind t) (storeGood t) (storeOf t)
+right-read t r e = record {
+  read = e;
+  number = ap (λ (x : StoreRead). readNumber x) e ∙ numbered (storeKind t) (storeGood t) (storeOf t);
+  values = ap (λ (x : StoreRead). readValues x) e ∙ valued (storeKind t) (storeGood t) (storeOf t);
+}

@@ -1,7 +1,7 @@
 -- 01, "The slot file": the fields of slot 0, a group, coefficients and a store record, by their byte positions.
 use Prim.Native.Nat.{ℕ, _+_, _*_, _/_, _%_}
 use mathlib.Core.Path.{_≡_}
-use mathlib.Core.Bool.{Bool, _||_}
+use mathlib.Core.Bool.{Bool, _&&_, _||_}
 use mathlib.Core.List.{List, [], _∷_}
 use lib.Dec.{leb, eqb}
 use lib.IntN.{ℤ}
@@ -72,9 +72,13 @@ groupOf t = record {
 unfoldable pub groupGood : List ℕ → Group → Bool
 groupGood t g = allOf (groupInRange g ∷ leb (byteAt t 5) 3 ∷ zeroFrom t 36 28 ∷ [])
 
+-- "(byte 2 = 1)"
+abbrev pub groupKind : List ℕ → Bool
+groupKind t = eqb (byteAt t 2) 1
+
 -- "34..35 first coefficient slot"
 unfoldable pub groupRead : List ℕ → GroupRead
-groupRead t = record { number = numberOf (eqb (byteAt t 2) 1) (groupGood t (groupOf t)); group = groupOf t; next = nextOf t; first = u16At t 34 }
+groupRead t = record { number = numberOf (groupKind t) (groupGood t (groupOf t)); group = groupOf t; next = nextOf t; first = u16At t 34 }
 
 -- **Coefficients**: "from 4 seven 4-byte numbers ...: warm-up per minute in warm, transitional, cold period; run per kilometre in the same three; idle per minute"
 unfoldable pub coefficientsOf : List ℕ → Coefficients
@@ -88,10 +92,14 @@ coefficientsOf t = record {
 unfoldable pub coefficientsGood : List ℕ → Coefficients → Bool
 coefficientsGood t k = allOf (coefficientsInRange k ∷ zeroFrom t 32 32 ∷ [])
 
+-- "(byte 2 = 2)"
+abbrev pub coefficientsKind : List ℕ → Bool
+coefficientsKind t = eqb (byteAt t 2) 2
+
 -- "3 pollutant", and the next index, by which the coefficient chain goes on
 unfoldable pub coefficientsRead : List ℕ → CoefficientsRead
 coefficientsRead t = record {
-  number = numberOf (eqb (byteAt t 2) 2) (coefficientsGood t (coefficientsOf t));
+  number = numberOf (coefficientsKind t) (coefficientsGood t (coefficientsOf t));
   pollutant = byteAt t 3;
   coefficients = coefficientsOf t;
   next = nextOf t;
@@ -162,12 +170,29 @@ readBy good r = if_then_else good (Record r) OutOfRange
 unfoldable pub readStore : List ℕ → StoreRead
 readStore t = if_then_else (storeKind t) (readBy (storeGood t) (storeOf t)) WrongKind
 
--- "For any answer that is an enum, a definition gives this paper's number and values for each of its cases": the number of a read; its value is the record
+-- "For any answer that is an enum, a definition gives this paper's number and values for each of its cases": of a store record, the number of its kind and the
+-- values of its fields
+abbrev pub bulkFields : Bulk → List ℕ
+bulkFields b = b .dust ∷ b .store ∷ b .material ∷ b .wind ∷ b .moisture ∷ b .grain ∷ b .openness ∷ b .amount ∷ []
+
+abbrev pub storeFields : Store → List ℕ
+storeFields (Handling h) = 3 ∷ h .drop ∷ bulkFields (h .bulk)
+storeFields (Standing s) = 4 ∷ s .k6 ∷ bulkFields (s .bulk)
+storeFields (Aspiration a) = 5 ∷ a .dust ∷ a .store ∷ a .concentration ∷ a .flow ∷ a .capture ∷ a .hours ∷ []
+
+-- of a read, the number that refuses it, or 0, and the values that it hands over: those of the record, or none
 abbrev pub readNumber : StoreRead → ℕ
 readNumber (Record r) = 0
 readNumber WrongKind = 8
 readNumber OutOfRange = 9
 
--- a store record's read is right where it is the one of the slot, with the paper's number
-abbrev pub StoreReads : List ℕ → StoreRead → Type 0
-StoreReads t r = (r ≡ readStore t) × (readNumber r ≡ numberOf (storeKind t) (storeGood t))
+abbrev pub readValues : StoreRead → List ℕ
+readValues (Record r) = storeFields r
+readValues WrongKind = []
+readValues OutOfRange = []
+
+-- a store record's read is right where it is the one of the slot, with the paper's number and values
+pub record StoreReads (t : List ℕ) (r : StoreRead) : Type 0 where
+  pub read : r ≡ readStore t
+  pub number : readNumber r ≡ numberOf (storeKind t) (storeGood t)
+  pub values : readValues r ≡ if_then_else (storeKind t && storeGood t) (storeFields (storeOf t)) []

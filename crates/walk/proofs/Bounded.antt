@@ -27,7 +27,7 @@ use Rattle.slot_file.specs.Alike.{total}
 use Rattle.slot_file.specs.Parts.{partsTo}
 use Rattle.totals.proofs.Sums.{total-listTo}
 use Rattle.walk.specs.Walked.{unitsOf}
-use Rattle.walk.proofs.Ranged.{group-in-range, row-in-range, storeInRange, store-answered}
+use Rattle.slot_file.proofs.Ranged.{group-in-range, row-in-range, storeInRange, store-answered}
 
 -- of either kind of sum
 module _ (f : Contribution → Frac) (k most : ℕ) (bound : (n : ℕ) (x : Contribution) → Bounded n (x .tonnes) (x .rate) → n * partsOf k (f x) ≤ most) (c : ℕ) where

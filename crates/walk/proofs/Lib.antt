@@ -1,8 +1,6 @@
 -- The laws that belong to no one function.
 pub mod Telling
-pub mod SixRows
 pub mod GroupAsks
-pub mod Ranged
 pub mod Passing
 pub mod StoreAsks
 pub mod Bounded

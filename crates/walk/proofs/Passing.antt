@@ -36,7 +36,7 @@ use Rattle.walk.specs.Steps.{GroupStepped, StoreStepped}
 use Rattle.walk.specs.Walked.{sumsOf, plusGroup, GroupsPassed, GroupsEnded, recordEmission, storeEmission, plusStore, StoresPassed, StoresEnded}
 use Rattle.walk.specs.declared.groups.GroupStep.{GroupStep}
 use Rattle.walk.specs.declared.records.StoreStep.{StoreStep}
-use Rattle.walk.proofs.Ranged.{group-answered, storeInRange, store-answered}
+use Rattle.slot_file.proofs.Ranged.{group-answered, storeInRange, store-answered}
 
 -- adding keeps the room
 group-room : (summing : Bool) (l : List ℕ) (a : GroupAnswer) → length (plusGroup summing l a) ≡ length l

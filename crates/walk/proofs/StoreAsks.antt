@@ -1,17 +1,17 @@
 -- All that is asked of a link to a store record: of the link, by what its slot reads as. Assumes nothing.
-use Prim.Native.Nat.{ℕ}
+use Prim.Native.Nat.{ℕ, _≤_}
 use mathlib.Core.Path.{_≡_}
 use mathlib.Core.Bool.{Bool}
 use mathlib.Core.List.{List}
 use Rattle.sums.specs.declared.answer.Verdict.{Verdict}
-use Rattle.slots.specs.Bytes.{slotOf}
-use Rattle.slots.specs.Layout.{readStore, readNumber}
+use Rattle.slots.specs.Bytes.{slotOf, numberOf}
+use Rattle.slots.specs.Layout.{storeKind, storeGood}
 use Rattle.slot_file.specs.Sources.{Chains}
-use Rattle.slot_file.specs.Questions.{lastOf, sourcesOf, storeAsks}
+use Rattle.slot_file.specs.Questions.{mostSlots, slotCount, lastOf, sourcesOf, storeAsks}
 use Rattle.slot_file.specs.Parts.{marksOf}
 use Rattle.walk.specs.Told.{Told, LinkTold}
 
-pub store-told : (s : List ℕ) (c : Chains) {k holder number : ℕ} {sources : List Bool} {v : Verdict} → LinkTold s sources holder k number v
-    → number ≡ readNumber (readStore (slotOf s k)) → (k ≡ 0 → ⊥) → sources ≡ marksOf (sourcesOf c) → holder ≡ lastOf (c .stores) → Told (storeAsks s c k) v
+pub store-told : (s : List ℕ) (c : Chains) {k holder number : ℕ} {sources : List Bool} {v : Verdict} → LinkTold s sources holder k number v → slotCount s ≤ mostSlots
+    → number ≡ numberOf (storeKind (slotOf s k)) (storeGood (slotOf s k)) → (k ≡ 0 → ⊥) → sources ≡ marksOf (sourcesOf c) → holder ≡ lastOf (c .stores) → Told (storeAsks s c k) v
 unfolding storeAsks
-store-told s c t e z m h = rw (← h, ← e) (t .told (sourcesOf c) m z)
+store-told s c t l e z m h = rw (← h) (t .told (sourcesOf c) _ _ l m z e)

@@ -2,15 +2,21 @@
 use Prim.Native.Nat.{ℕ, suc, _+_, _<_}
 use native.Mathlib.Omega.{arith}
 use mathlib.Core.Path.{_≡_, refl, sym, ap, _∙_}
-use mathlib.Core.Bool.{Bool, true, false}
+use mathlib.Core.Bool.{Bool, true, false, not}
 use mathlib.Core.List.{List, [], _∷_, _++_}
+use lib.Dec.{eqb, lit<}
 use lib.ListN.{getD}
+use native.Mathlib.Decide.{decLt}
+use borrow.Author.Tests.{eq-eqb, ne-eqb, lt-ltb}
+use Rattle.sums.specs.Choice.{if_then_else}
 use Rattle.sums.specs.declared.answer.Verdict.{Verdict}
+use Rattle.slots.specs.Bytes.{numberOf}
 use Rattle.slot_file.specs.Questions.{mostSlots, Question, question, member, reachAsks}
 use Rattle.slot_file.specs.Meaning.{AllYes, FirstNo, here, later}
+use Rattle.slot_file.proofs.Asking.{all-append, all-right, no-before, no-after}
 use Rattle.slot_file.proofs.Marks.{marks-member}
 use Rattle.slot_file.specs.Parts.{marksOf}
-use Rattle.walk.specs.Told.{Told}
+use Rattle.walk.specs.Told.{asked, isMarked, Told}
 
 pub told-no : {qs : List Question} {v : Verdict} (n k : ℕ) → v ≡ record { number = n; slot = k } → (n ≡ 0 → ⊥) → FirstNo qs n k → Told qs v
 told-no n k e z f = rw e (record { all = λ y. absurd (z y); first = λ _. f })
@@ -22,35 +28,61 @@ pub not-refused : {v : Verdict} (n k : ℕ) → v ≡ record { number = n; slot 
 not-refused n k e z y = z (sym (ap (λ (v : Verdict). v .number) e) ∙ y)
 
 -- along an append of lists
-pub all-append : (xs ys : List Question) → AllYes xs → AllYes ys → AllYes (xs ++ ys)
-all-append [] ys a b = b
-all-append (x ∷ xs) ys a b = (a .0, all-append xs ys (a .1) b)
-
-pub all-left : (xs ys : List Question) → AllYes (xs ++ ys) → AllYes xs
-all-left [] ys a = tt
-all-left (x ∷ xs) ys a = (a .0, all-left xs ys (a .1))
-
-pub all-right : (xs ys : List Question) → AllYes (xs ++ ys) → AllYes ys
-all-right [] ys a = a
-all-right (x ∷ xs) ys a = all-right xs ys (a .1)
-
-pub no-before : {n k : ℕ} (xs ys : List Question) → FirstNo xs n k → FirstNo (xs ++ ys) n k
-no-before xs ys (here q qs e) = here q (qs ++ ys) e
-no-before xs ys (later q qs e f) = later q (qs ++ ys) e (no-before qs ys f)
-
-pub no-after : {n k : ℕ} (xs ys : List Question) → AllYes xs → FirstNo ys n k → FirstNo (xs ++ ys) n k
-no-after [] ys a f = f
-no-after (x ∷ xs) ys a f = later x (xs ++ ys) (a .0) (no-after xs ys (a .1) f)
-
 pub told-before : {v : Verdict} (xs ys : List Question) → Told xs v → (v .number ≡ 0 → ⊥) → Told (xs ++ ys) v
 told-before xs ys t z = record { all = λ y. absurd (z y); first = λ _. no-before xs ys (t .first z) }
 
 pub told-after : {v : Verdict} (xs ys : List Question) → AllYes xs → Told ys v → Told (xs ++ ys) v
 told-after xs ys a t = record { all = λ y. all-append xs ys a (t .all y); first = λ z. no-after xs ys a (t .first z) }
 
+pub told-none : {v : Verdict} → v ≡ record { number = 0; slot = 0 } → Told [] v
+told-none e = told-yes e tt
+
+-- one question more, where b is its answer if nothing was refused before it
+pub told-ask : {qs : List Question} (v : Verdict) {r : Verdict} (b answer : Bool) (n k : ℕ) → 0 < n → Told qs v → (v .number ≡ 0 → b ≡ answer)
+    → r ≡ asked v (question b n k) → Told (qs ++ question answer n k ∷ []) r
+unfolding asked if_then_else
+told-ask {qs} v {r} b answer n k z t e p = elim (decLt 0 (v .number)) [
+  | yes l ↦ (let w : v .number ≡ 0 → ⊥ = λ y. omega arith in rw (simp (ne-eqb (v .number) 0 w) at p) (told-before qs (question answer n k ∷ []) t w))
+  | no l ↦ (let y : v .number ≡ 0 = omega arith in zero y b (e y) (simp (eq-eqb (v .number) 0 y) at p))
+]
+  where
+    zero : v .number ≡ 0 → (b : Bool) → b ≡ answer → r ≡ if_then_else (not b) (record { number = n; slot = k }) v → Told (qs ++ question answer n k ∷ []) r
+    zero y true e p = rw p (record { all = λ _. all-append qs _ (t .all y) (sym e, tt); first = λ w. absurd (w y) })
+    zero y false e p = told-no n k p (λ i. omega arith) (no-after qs _ (t .all y) (here _ [] (sym e)))
+
+-- where nothing is refused by a question, nothing was refused before it
+pub asked-zero : (v : Verdict) {r : Verdict} (q : Question) → r ≡ asked v q → r .number ≡ 0 → v .number ≡ 0
+unfolding asked if_then_else
+asked-zero v q p y = elim (decLt 0 (v .number)) [
+  | yes l ↦ (let w : v .number ≡ 0 → ⊥ = λ z. omega arith in sym (ap (λ (x : Verdict). x .number) (simp (ne-eqb (v .number) 0 w) at p)) ∙ y)
+  | no l ↦ omega arith
+]
+
 -- a mark says whether its slot is among those that the marks are of
 pub marked : (before : List ℕ) {marks : List Bool} (k : ℕ) {t : Bool} → marks ≡ marksOf before → (k ≡ 0 → ⊥) → k < mostSlots → getD marks k false ≡ t → member k before ≡ t
 marked before k m z h e = sym (marks-member before k (omega arith) h) ∙ ap (λ (l : List Bool). getD l k false) (sym m) ∙ e
+
+pub mark-known : (before : List ℕ) {marks : List Bool} (k : ℕ) → marks ≡ marksOf before → (k ≡ 0 → ⊥) → k < mostSlots → isMarked marks k ≡ member k before
+mark-known before k m z h = simp (lt-ltb k mostSlots h) (sym (marked before k m z h refl))
+
+-- the number of a slot's read answers question 8, and then question 9
+kind-told : {n : ℕ} (kind good : Bool) → n ≡ numberOf kind good → not (eqb n 8) ≡ kind
+unfolding numberOf if_then_else
+kind-told true true e = rw e refl
+kind-told true false e = rw e refl
+kind-told false good e = rw e refl
+
+good-told : {n : ℕ} (kind good : Bool) → n ≡ numberOf kind good → kind ≡ true → not (eqb n 9) ≡ good
+unfolding numberOf if_then_else
+good-told true true e k = rw e refl
+good-told true false e k = rw e refl
+good-told false good e k = cc
+
+pub told-read : {qs : List Question} (v : Verdict) (w : Verdict) {r : Verdict} (n : ℕ) (kind good : Bool) (k : ℕ) → n ≡ numberOf kind good → Told qs v
+    → w ≡ asked v (question (not (eqb n 8)) 8 k) → r ≡ asked w (question (not (eqb n 9)) 9 k) → Told ((qs ++ question kind 8 k ∷ []) ++ question good 9 k ∷ []) r
+told-read {qs} v w n kind good k e t p q =
+    let a = told-ask v _ kind 8 k (lit< tt) t (λ _. kind-told kind good e) p in
+    told-ask w _ good 9 k (lit< tt) a (λ y. good-told kind good e (all-right qs (question kind 8 k ∷ []) (a .all y) .0)) q
 
 -- what the questions qs are told, all of them are: those before qs were answered yes
 pub record Rest (qs whole : List Question) : Type 0 where

@@ -1,10 +1,11 @@
 // The questions in order: of a list of them, the number and the slot of the first that is answered no, or 0 and 0.
 ghost use mathlib.Core.Path.{_≡_};
+ghost use mathlib.Core.Bool.{not};
 ghost use Prim.Native.Nat.{_≤_};
-ghost use lib.ListN.{length};
+ghost use Rattle.vehicles.specs.Rules.{notZero};
 ghost use Rattle.slot_file.specs.Sources.{headerAt};
-ghost use Rattle.slot_file.specs.Questions.{mostSlots, mostBytes, headAsks};
-ghost use Rattle.walk.specs.Told.{Told, LinkTold, RowTold, SootTold, ReachTold};
+ghost use Rattle.slot_file.specs.Questions.{mostSlots, question, headAsks};
+ghost use Rattle.walk.specs.Told.{asked, isMarked, Told, LinkTold, RowTold, ReachTold};
 use slot_file::MOST_SLOTS;
 use slots::CoefficientsRead;
 use slots::Header;
@@ -29,30 +30,37 @@ pub(crate) fn refuse(number: u8, slot: u16) -> Verdict
 // The bytes of a file at most.
 const MOST_BYTES: usize = SLOT_SIZE * MOST_SLOTS;
 
+// One question more, after what was told before: it is asked where nothing was refused.
+pub(crate) fn ask(before: Verdict, yes: bool, number: u8, slot: u16) -> Verdict
+    ensures { λ r. ⌜ r ≡ asked before (question yes number slot) ⌝ }
+{
+    if (before.number == 0) & !yes {
+        refuse(number, slot)
+    } else {
+        before
+    }
+}
+
 // Questions 1 to 5, of the file and its slot 0.
 pub(crate) fn ask_head(file: &[u8], h: Header) -> Verdict
     requires { ⌜ h ≡ headerAt (now file) ⌝ }
     ensures { λ r. ⌜ Told (headAsks (now (file .entry))) r ⌝ }
 {
     let n = file.len();
-    let whole = (SLOT_SIZE <= n) & (n <= MOST_BYTES) & (n % SLOT_SIZE == 0);
-    if !whole {
-        return refuse(1, 0);
-    }
-    if h.format != 1 {
-        return refuse(2, 0);
-    }
-    if h.count as usize != n / SLOT_SIZE {
-        return refuse(3, 0);
-    }
-    if !h.rest {
-        return refuse(4, 0);
-    }
     let temperatures = h.temperatures;
-    if !vehicles::temperatures_in_range(temperatures) {
-        return refuse(5, 0);
-    }
-    accept()
+    let whole = (SLOT_SIZE <= n) & (n <= MOST_BYTES) & (n % SLOT_SIZE == 0);
+    let v = ask(accept(), whole, 1, 0);
+    let v = ask(v, h.format == 1, 2, 0);
+    let v = ask(v, h.count as usize == n / SLOT_SIZE, 3, 0);
+    let v = ask(v, h.rest, 4, 0);
+    ask(v, vehicles::temperatures_in_range(temperatures), 5, 0)
+}
+
+// Whether the slot k is marked.
+fn is_marked(marks: &[bool; MOST_SLOTS], k: usize) -> bool
+    ensures { λ r. ⌜ r ≡ isMarked (now (marks .entry)) k ⌝ }
+{
+    (k < MOST_SLOTS) && marks[k]
 }
 
 // Questions 6 to 9, of a link to a group or store record: `number` is what the slot's read answers of 8 and 9.
@@ -63,23 +71,13 @@ pub(crate) fn ask_link(
     link: u16,
     number: u8,
 ) -> Verdict
-    requires { ⌜ length (now file) ≤ mostBytes ⌝ }
     ensures { λ r. ⌜ LinkTold (now (file .entry)) (now (sources .entry)) holder link number r ⌝ }
 {
     let k = link as usize;
-    if file.len() / SLOT_SIZE <= k {
-        return refuse(6, holder);
-    }
-    if sources[k] {
-        return refuse(7, link);
-    }
-    if number == 8 {
-        return refuse(8, link);
-    }
-    if number == 9 {
-        return refuse(9, link);
-    }
-    accept()
+    let v = ask(accept(), k < file.len() / SLOT_SIZE, 6, holder);
+    let v = ask(v, !is_marked(sources, k), 7, link);
+    let v = ask(v, number != 8, 8, link);
+    ask(v, number != 9, 9, link)
 }
 
 // Questions 10, 6, 8, 9 and 10, of a link to a group's coefficient slot at a place from 0.
@@ -92,22 +90,11 @@ pub(crate) fn ask_row(
 ) -> Verdict
     ensures { λ r. ⌜ RowTold (now (file .entry)) holder link place row r ⌝ }
 {
-    if link == 0 {
-        return refuse(10, holder);
-    }
-    if file.len() / SLOT_SIZE <= link as usize {
-        return refuse(6, holder);
-    }
-    if row.number == 8 {
-        return refuse(8, link);
-    }
-    if row.number == 9 {
-        return refuse(9, link);
-    }
-    if row.pollutant as u16 != place as u16 + 1 {
-        return refuse(10, link);
-    }
-    accept()
+    let v = ask(accept(), link != 0, 10, holder);
+    let v = ask(v, (link as usize) < file.len() / SLOT_SIZE, 6, holder);
+    let v = ask(v, row.number != 8, 8, link);
+    let v = ask(v, row.number != 9, 9, link);
+    ask(v, row.pollutant as u16 == place as u16 + 1, 10, link)
 }
 
 // Question 11, of a group that was told `before` by the questions before it.
@@ -117,15 +104,14 @@ pub(crate) fn ask_soot_and_lead(
     coefficients: [Coefficients; POLLUTANTS],
     link: u16,
 ) -> Verdict
-    ensures { λ r. ⌜ SootTold before group coefficients link r ⌝ }
+    ensures { λ r. ⌜ r ≡ asked before (question (not (notZero group coefficients)) 11 link) ⌝ }
 {
-    if before.number != 0 {
-        return before;
-    }
-    if vehicles::forbidden_soot_or_lead(group, coefficients) {
-        return refuse(11, link);
-    }
-    before
+    ask(
+        before,
+        !vehicles::forbidden_soot_or_lead(group, coefficients),
+        11,
+        link,
+    )
 }
 
 // Question 12, of each slot from 1 up.

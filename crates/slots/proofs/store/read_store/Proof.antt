@@ -9,12 +9,12 @@ use lib.ListN.{getD}
 use Rattle.sums.specs.Choice.{if_then_else}
 use Rattle.slots.specs.Layout.{storeKind, byKind, storeOf, storeGood, readStore, StoreReads}
 use Rattle.slots.specs.declared.store.StoreRead.{StoreRead}
-use Rattle.slots.proofs.Cases.{with-number}
+use Rattle.slots.proofs.Cases.{right-read}
 use Rattle.slots.proofs.store.read_store.Statement.{statement}
 use Rattle.slots.proofs.store.read_store.Tie as tie
 
 of-slot : (t s : List ℕ) (r : StoreRead) → t ≡ s → r ≡ readStore t → StoreReads s r
-of-slot t s r h e = with-number s r (e ∙ ap readStore h)
+of-slot t s r h e = right-read s r (e ∙ ap readStore h)
 
 pub read-store-spec : {M : Type 1} → statement M
 unfolding readStore storeKind storeGood storeOf byKind if_then_else

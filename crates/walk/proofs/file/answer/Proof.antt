@@ -5,8 +5,7 @@ use Rattle.slot_file.specs.Questions.{accepted, refused}
 use Rattle.slot_file.specs.Figures.{summed}
 use Rattle.slot_file.proofs.Verdicts.{only}
 use Rattle.slot_file.proofs.Numbers.{refused-answer}
-use Rattle.slot_file.proofs.Rounded.{summed-counts}
-use Rattle.slot_file.proofs.Agreement.{accepted-answer}
+use Rattle.slot_file.proofs.Agreement.{accepted-answer, summed-counts}
 use Rattle.walk.proofs.FileFigures.{file-figures}
 use Rattle.walk.proofs.file.answer.Statement.{statement}
 use Rattle.walk.proofs.file.answer.Tie as tie

@@ -1,12 +1,11 @@
 -- The questions of the link, of the coefficient links and of question 11, one after the other; the slots are marked as they are passed.
 use native.Mathlib.Omega.{arith}
 use mathlib.Core.Path.{refl, ap}
-use mathlib.Core.List.{[]}
 use Rattle.slots.specs.Layout.{groupRead}
 use Rattle.slots.specs.declared.group.GroupRead.{GroupRead}
 use Rattle.slot_file.specs.Sources.{groupAt}
-use Rattle.slot_file.specs.Questions.{groupsSoFar}
-use Rattle.walk.proofs.GroupAsks.{link-told, link-refused, told-before-eleven, eleven-told}
+use Rattle.walk.proofs.GroupAsks.{link-told, link-refused, eleven-told}
+use Rattle.walk.proofs.Telling.{asked-zero}
 use Rattle.walk.proofs.groups.step_group.Statement.{statement}
 use Rattle.walk.proofs.groups.step_group.Tie as tie
 
@@ -18,7 +17,7 @@ returns c =
     let g = a .args .link in
     let e = l .before .before .before .read-group .ensures in
     record {
-      told = λ b m h. link-refused s b g (link-told s b g (a .args .holder) _ (l .ask-link .ensures) e (a .pre .1) m h) (c .before .if1 .taken);
+      told = λ b m h. link-refused s b g (link-told s b g (a .args .holder) _ (l .ask-link .ensures) (omega arith) e (a .pre .1) m h) (c .before .if1 .taken);
       passed = λ y. absurd (c .before .if1 .taken y);
     }
 
@@ -44,10 +43,10 @@ returns-2 c =
     let f = ap (λ (r : GroupRead). r .group) e in
     record {
       told = λ b m h.
-          eleven-told s b g t (link-told s b g (a .args .holder) _ (l .ask-link .ensures) e (a .pre .1) m h .all (r .before .before .if1 .left))
+          eleven-told s b g _ _ _ t (link-told s b g (a .args .holder) _ (l .ask-link .ensures) (omega arith) e (a .pre .1) m h .all (r .before .before .if1 .left))
           (r .read-rows .ensures .told) f (r .read-rows .ensures .coefficients);
       passed = λ y.
-          let z = told-before-eleven s (groupsSoFar []) g t y in
+          let z = asked-zero _ _ t y in
           record {
             group = f;
             coefficients = r .read-rows .ensures .coefficients z;

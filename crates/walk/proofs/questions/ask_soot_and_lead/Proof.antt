@@ -1,30 +1,16 @@
--- What was told before, and else question 11.
+-- What the fields answer is asked.
 use native.Mathlib.Omega.{arith}
-use mathlib.Core.Path.{refl, sym, ap, _∙_}
-use mathlib.Core.Bool.{not}
-use Rattle.slot_file.specs.Meaning.{here}
-use Rattle.walk.proofs.Telling.{told-no}
+use mathlib.Core.Path.{ap, _∙_}
+use mathlib.Core.Bool.{Bool, not}
+use Rattle.slot_file.specs.Questions.{question}
+use Rattle.walk.specs.Told.{asked}
 use Rattle.walk.proofs.questions.ask_soot_and_lead.Statement.{statement}
 use Rattle.walk.proofs.questions.ask_soot_and_lead.Tie as tie
 
 returns : tie.Need-returns
-returns c = record { kept = λ _. refl; told = λ y. absurd (c .if1 .taken y) }
-
-returns-2 : tie.Need-returns-2
-returns-2 c =
-    let b = c .before .before in
-    record {
-      kept = λ z. absurd (z (b .before .if1 .left));
-      told = λ _. told-no 11 _ (c .refuse .ensures) (omega arith) (here _ _ (ap not (sym (b .forbidden-soot-or-lead .ensures) ∙ c .before .if2 .taken)));
-    }
-
-returns-3 : tie.Need-returns-3
-returns-3 c =
-    let b = c .before in
-    record {
-      kept = λ z. absurd (z (b .before .if1 .left));
-      told = λ y. record { all = λ _. (ap not (sym (b .forbidden-soot-or-lead .ensures) ∙ c .if2 .left), tt); first = λ w. absurd (w y) };
-    }
+returns c =
+    let a = c .before .before .args in
+    c .ask .ensures ∙ ap (λ (b : Bool). asked (a .before) (question (not b) 11 (a .link))) (c .before .forbidden-soot-or-lead .ensures)
 
 pub ask-soot-and-lead-spec : {M : Type 1} → statement M
-ask-soot-and-lead-spec = tie.close (tie.spec returns (omega arith) (omega arith) returns-2 returns-3)
+ask-soot-and-lead-spec = tie.close (tie.spec (omega arith) (omega arith) returns)

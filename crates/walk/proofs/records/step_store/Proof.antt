@@ -1,8 +1,6 @@
 -- The questions of the link; the slot is marked where none is answered no.
 use native.Mathlib.Omega.{arith}
-use mathlib.Core.Path.{_≡_, refl, ap, _∙_}
-use Rattle.slots.specs.Layout.{readNumber}
-use Rattle.slots.specs.declared.store.StoreRead.{StoreRead}
+use mathlib.Core.Path.{_≡_, refl, _∙_}
 use Rattle.slot_file.specs.Sources.{Chains}
 use Rattle.slot_file.specs.Questions.{lastOf, sourcesOf, storeAsks}
 use Rattle.slot_file.specs.Parts.{marksOf}
@@ -16,10 +14,10 @@ returns c =
     let l = c .before .before in
     let a = l .before .before .before .before .before in
     let s = a .args .file .now in
-    let e = l .before .before .before .read-store .ensures .0 in
+    let r = l .before .before .before .read-store .ensures in
     let told : (d : Chains) → a .args .sources .now ≡ marksOf (sourcesOf d) → a .args .holder ≡ lastOf (d .stores) → Told (storeAsks s d (a .args .link)) _ =
-    λ d. store-told s d (l .ask-link .ensures) (l .before .number-of .ensures ∙ ap (λ (r : StoreRead). readNumber r) e) (a .pre .1) in
-    record { read = e; told = told; passed = λ y. absurd (c .if1 .taken y) }
+    λ d. store-told s d (l .ask-link .ensures) (omega arith) (l .before .number-of .ensures ∙ r .number) (a .pre .1) in
+    record { read = r .read; told = told; passed = λ y. absurd (c .if1 .taken y) }
 
 element-write-sources : tie.Need-element-write-sources
 element-write-sources c = omega (arith, c .before .before .ask-link .ensures .below (c .if1 .left))
@@ -32,10 +30,10 @@ returns-2 c =
     let l = c .before .before .before in
     let a = l .before .before .before .before .before in
     let s = a .args .file .now in
-    let e = l .before .before .before .read-store .ensures .0 in
+    let r = l .before .before .before .read-store .ensures in
     let told : (d : Chains) → a .args .sources .now ≡ marksOf (sourcesOf d) → a .args .holder ≡ lastOf (d .stores) → Told (storeAsks s d (a .args .link)) _ =
-    λ d. store-told s d (l .ask-link .ensures) (l .before .number-of .ensures ∙ ap (λ (r : StoreRead). readNumber r) e) (a .pre .1) in
-    record { read = e; told = told; passed = λ _. record { next = c .next-of .ensures; source-marked = refl; slot-marked = refl } }
+    λ d. store-told s d (l .ask-link .ensures) (omega arith) (l .before .number-of .ensures ∙ r .number) (a .pre .1) in
+    record { read = r .read; told = told; passed = λ _. record { next = c .next-of .ensures; source-marked = refl; slot-marked = refl } }
 
 pub step-store-spec : {M : Type 1} → statement M
 step-store-spec =

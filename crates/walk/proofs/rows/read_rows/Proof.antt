@@ -17,8 +17,9 @@ use Rattle.slot_file.specs.Sources.{coefficientSlot, groupAt}
 use Rattle.slot_file.specs.Questions.{slotCount, coefficientHolder, coefficientAsks, rowsAsks, afterSixth}
 use Rattle.slot_file.specs.Meaning.{AllYes, here}
 use Rattle.walk.specs.Rows.{marksTo}
-use Rattle.walk.proofs.Telling.{told-no, told-yes, not-refused, all-append, no-before, no-after}
-use Rattle.walk.proofs.SixRows.{rows-yes, rows-no}
+use Rattle.walk.proofs.Telling.{told-no, told-yes, not-refused}
+use Rattle.slot_file.proofs.Asking.{all-append, no-before, no-after}
+use Rattle.slot_file.proofs.SixRows.{rows-yes, rows-no}
 use Rattle.walk.proofs.rows.read_rows.Statement.{statement}
 use Rattle.walk.proofs.rows.read_rows.Tie as tie
 

@@ -5,9 +5,9 @@ use native.Mathlib.Decide.{decLt}
 use native.Mathlib.Numerals.{add-one}
 use mathlib.Core.Path.{_≡_}
 use mathlib.Core.List.{List}
 use Rattle.slot_file.specs.Questions.{coefficientAsks, rowsAsks}
 use Rattle.slot_file.specs.Meaning.{AllYes, FirstNo}
-use Rattle.walk.proofs.Telling.{all-append, all-left, all-right, no-before, no-after}
+use Rattle.slot_file.proofs.Asking.{all-append, all-left, all-right, no-before, no-after}
 
 module _ (s : List ℕ) (g : ℕ) where
   pub rows-yes : (n : ℕ) → AllYes (rowsAsks s g n) → AllYes (coefficientAsks s g n) → AllYes (rowsAsks s g (n + 1))

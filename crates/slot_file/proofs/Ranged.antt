@@ -1,10 +1,10 @@
 -- A source that nothing is refused of is in range, and has zero soot or lead where it must: so its rule answers what it gives, and never a refusal. Assumes
 -- nothing.
 use Prim.Native.Nat.{ℕ, _<_}
-use mathlib.Core.Path.{_≡_, refl, sym, subst, _∙_}
-use mathlib.Core.Bool.{Bool, true, false, not}
-use mathlib.Core.List.{List, [], _∷_}
-use lib.Dec.{T, leb, eqb}
+use mathlib.Core.Path.{_≡_}
+use mathlib.Core.Bool.{Bool, true, false}
+use mathlib.Core.List.{List, [], _∷_, _++_}
+use lib.Dec.{leb, eqb}
 use lib.ListN.{getD}
 use borrow.Author.Tests.{not-true}
 use Rattle.sums.specs.Choice.{if_then_else}
@@ -12,56 +12,53 @@ use Rattle.sums.proofs.Choices.{nth, allTo-of, listTo-at}
 use Rattle.stores.specs.Fields.{handlingInRange, standingInRange, aspirationInRange}
 use Rattle.vehicles.specs.Fields.{pollutantCount, noCoefficients, groupInRange, coefficientsInRange, allInRange}
 use Rattle.vehicles.specs.Rules.{inRange, notZero, emissionsOf, groupAnswer}
-use Rattle.slots.specs.Bytes.{byteAt, numberOf, zeroFrom, slotOf}
-use Rattle.slots.specs.Layout.{groupOf, groupGood, groupRead, coefficientsOf, coefficientsGood, coefficientsRead, handlingOf, handlingGood, standingOf, standingGood, aspirationOf, aspirationGood, storeKind, byKind, storeOf, storeGood, readStore}
+use Rattle.slots.specs.Bytes.{byteAt, zeroFrom, slotOf}
+use Rattle.slots.specs.Layout.{groupOf, groupGood, groupRead, coefficientsOf, coefficientsGood, coefficientsRead, handlingOf, handlingGood, standingOf, standingGood, aspirationOf, aspirationGood, byKind, storeOf, storeGood, readBy, readStore}
 use Rattle.slots.specs.declared.store.Store.{Store}
 use Rattle.slots.specs.declared.store.Store.the-variants.{Handling, Standing, Aspiration}
 use Rattle.slots.specs.declared.store.StoreRead.the-variants.{Record}
-use Rattle.slots.proofs.Cases.{with-number, read-record}
 use Rattle.slot_file.specs.Sources.{coefficientSlot, groupAt, storeAt, temperaturesAt, Chains}
-use Rattle.slot_file.specs.Questions.{headAsks, linkAsks, coefficientAsks, rowsAsks, closingAsks, groupAsks, storeAsks}
+use Rattle.slot_file.specs.Questions.{Question, headAsks, linkAsks, coefficientAsks, rowsAsks, closingAsks, groupLinkAsks, groupAsks, storeAsks}
 use Rattle.slot_file.specs.Meaning.{AllYes}
-use Rattle.walk.proofs.Telling.{all-left, all-right}
-use Rattle.walk.proofs.SixRows.{row-yes}
-
--- a read that is refused neither 8 nor 9 is good, and has the number 0
-passed-read : (kind good : Bool) → not (eqb (numberOf kind good) 8) ≡ true → not (eqb (numberOf kind good) 9) ≡ true → (good ≡ true) × (numberOf kind good ≡ 0)
-unfolding numberOf if_then_else
-passed-read true true p q = (refl, refl)
-passed-read true false p q = absurd (subst T (sym q) tt)
-passed-read false good p q = absurd (subst T (sym p) tt)
+use Rattle.slot_file.proofs.Asking.{yes-at, all-left, all-right}
+use Rattle.slot_file.proofs.SixRows.{row-yes}
 
 module _ (s : List ℕ) (c : Chains) (g : ℕ) (a : AllYes (groupAsks s c g)) where
+  abbrev rows : List Question
+  rows = rowsAsks s g pollutantCount
+
   pub group-in-range : groupInRange (groupAt s g .group) ≡ true
   unfolding groupAsks linkAsks groupAt groupRead groupGood
   group-in-range =
       let t = slotOf s g in
-      nth (groupInRange (groupOf t) ∷ leb (byteAt t 5) 3 ∷ zeroFrom t 36 28 ∷ [])
-      (passed-read (eqb (byteAt t 2) 1) (groupGood t (groupOf t)) (a .1 .1 .0) (a .1 .1 .1 .0) .0) 0
+      nth (groupInRange (groupOf t) ∷ leb (byteAt t 5) 3 ∷ zeroFrom t 36 28 ∷ []) (yes-at (groupAsks s c g) a 3) 0
 
   pub row-in-range : (p : ℕ) → p < pollutantCount → coefficientsInRange (getD (groupAt s g .coefficients) p noCoefficients) ≡ true
   unfolding groupAsks linkAsks coefficientAsks groupAt coefficientsRead coefficientsGood
   row-in-range p h =
       let t = slotOf s (coefficientSlot s g p) in
-      let r = row-yes s g pollutantCount p h (all-left (rowsAsks s g pollutantCount) (closingAsks s g) (a .1 .1 .1 .1)) in
+      let r = row-yes s g pollutantCount p h (all-right (groupLinkAsks s c g) rows (all-left (groupLinkAsks s c g ++ rows) (closingAsks s g) a)) in
       rw (listTo-at noCoefficients pollutantCount (λ (n : ℕ). coefficientsOf (slotOf s (coefficientSlot s g n))) p h)
-      (nth (coefficientsInRange (coefficientsOf t) ∷ zeroFrom t 32 32 ∷ [])
-      (passed-read (eqb (byteAt t 2) 2) (coefficientsGood t (coefficientsOf t)) (r .1 .1 .0) (r .1 .1 .1 .0) .0) 0)
+      (nth (coefficientsInRange (coefficientsOf t) ∷ zeroFrom t 32 32 ∷ []) (yes-at (coefficientAsks s g p) r 3) 0)
 
   rows-in-range : allInRange (groupAt s g .coefficients) ≡ true
   unfolding allInRange
   rows-in-range = allTo-of pollutantCount (λ (p : ℕ). coefficientsInRange (getD (groupAt s g .coefficients) p noCoefficients)) row-in-range
 
-  zero-where-due : notZero (groupAt s g .group) (groupAt s g .coefficients) ≡ false
-  unfolding groupAsks linkAsks closingAsks
-  zero-where-due = not-true _ (all-right (rowsAsks s g pollutantCount) (closingAsks s g) (a .1 .1 .1 .1) .1 .0)
+  pub zero-where-due : notZero (groupAt s g .group) (groupAt s g .coefficients) ≡ false
+  unfolding groupAsks closingAsks
+  zero-where-due = not-true _ (yes-at (closingAsks s g) (all-right (groupLinkAsks s c g ++ rows) (closingAsks s g) a) 1)
+
+  pub all-in-range : AllYes (headAsks s) → inRange (groupAt s g .group) (temperaturesAt s) (groupAt s g .coefficients) ≡ true
+  unfolding inRange headAsks temperaturesAt
+  all-in-range h = simp (group-in-range, yes-at (headAsks s) h 4, rows-in-range)
 
   -- the group's rule answers what it gives
   pub group-answered : AllYes (headAsks s)
       → groupAnswer (groupAt s g .group) (temperaturesAt s) (groupAt s g .coefficients) .emissions
       ≡ emissionsOf (groupAt s g .group) (temperaturesAt s) (groupAt s g .coefficients)
-  unfolding groupAnswer inRange if_then_else headAsks temperaturesAt
-  group-answered h = simp (group-in-range, h .1 .1 .1 .1 .0, rows-in-range, zero-where-due)
+  unfolding groupAnswer if_then_else
+  group-answered h = simp (all-in-range h, zero-where-due)
 
 -- a store record in range
 abbrev pub storeInRange : Store → Bool
@@ -80,11 +77,9 @@ good-store t = go (eqb (byteAt t 2) 3) (eqb (byteAt t 2) 4)
     go false true e = nth (standingInRange (standingOf t) ∷ eqb (byteAt t 7) 0 ∷ eqb (byteAt t 15) 0 ∷ zeroFrom t 18 2 ∷ zeroFrom t 24 40 ∷ []) e 0
     go false false e = nth (aspirationInRange (aspirationOf t) ∷ zeroFrom t 6 2 ∷ zeroFrom t 20 44 ∷ []) e 0
 
--- its rule answers what it gives
+-- the read of a slot of a right kind with its tests passed is the record
 pub store-answered : (s : List ℕ) (c : Chains) (k : ℕ) → AllYes (storeAsks s c k) → (readStore (slotOf s k) ≡ Record (storeAt s k)) × (storeInRange (storeAt s k) ≡ true)
-unfolding storeAsks linkAsks storeAt
+unfolding storeAsks linkAsks storeAt readStore readBy if_then_else
 store-answered s c k a =
-    let t = slotOf s k in
-    let n = with-number t (readStore t) refl .1 in
-    let p = passed-read (storeKind t) (storeGood t) (rw n at (a .1 .1 .0)) (rw n at (a .1 .1 .1 .0)) in
-    (read-record t (n ∙ p .1), good-store t (p .0))
+    let good = yes-at (storeAsks s c k) a 3 in
+    (simp (yes-at (storeAsks s c k) a 2, good), good-store (slotOf s k) good)

@@ -1,0 +1,115 @@
+-- THE LETTER'S THREE DEMANDS, of the definitions that `walk::check` and `walk::answer` are proved to equal. By what a verdict means (`Verdicts`), by the range of
+-- each source that passed (`Ranged`), and by what two alike files have in common (`Agreement`). Assumes nothing.
+use Prim.Native.Nat.{ℕ, zero, suc, _<_}
+use native.Mathlib.Nat.{not-suc-le-zero, le-of-suc-le-suc}
+use native.Mathlib.Omega.{arith}
+use mathlib.Core.Path.{_≡_, refl, sym, ap, _∙_}
+use mathlib.Core.Bool.{true}
+use mathlib.Core.List.{List, [], _∷_, map, reverseAux}
+use lib.Dec.{lit<}
+use lib.ListN.{getD, length}
+use Rattle.sums.specs.Figures.{tonneParts, gramParts}
+use Rattle.sums.specs.Answer.{Contribution, noEmission}
+use Rattle.sums.specs.declared.answer.Emission.{Emission}
+use Rattle.sums.proofs.Choices.{listTo-at}
+use Rattle.sums.proofs.Rounding.{rounded}
+use Rattle.stores.proofs.Exactly.{handling-emitted, handling-exactly, standing-emitted, standing-exactly, aspiration-emitted, aspiration-exactly}
+use Rattle.vehicles.specs.Fields.{noCoefficients}
+use Rattle.vehicles.specs.Rules.{emissionCount, emissionOf, emissionsOf}
+use Rattle.vehicles.proofs.Bounds.{group-exactly}
+use Rattle.slots.specs.declared.store.Store.{Store}
+use Rattle.slots.specs.declared.store.Store.the-variants.{Handling, Standing, Aspiration}
+use Rattle.slot_file.specs.Sources.{groupAt, storeAt, temperaturesAt, Chains, inventoryAt}
+use Rattle.slot_file.specs.Questions.{headAsks, groupsSoFar, storesSoFar, groupAsks, storeAsks, Verdict, accepted, refused}
+use Rattle.slot_file.specs.Walk.{verdict, told}
+use Rattle.slot_file.specs.Meaning.{AllYes, Good, Accepts, Refuses}
+use Rattle.slot_file.specs.Codes.{codes, codeCount}
+use Rattle.slot_file.specs.Figures.{contributions, annualFigure, peakFigure, summed, answer, refusal}
+use Rattle.slot_file.specs.Alike.{AlikeFiles}
+use Rattle.slot_file.specs.Demands.{Checked, GroupGives, StoreGives, Each, Worked, FiguresRounded}
+use Rattle.slot_file.proofs.Verdicts.{exactly-when}
+use Rattle.slot_file.proofs.Numbers.{refused-answer}
+use Rattle.slot_file.proofs.Ranged.{all-in-range, zero-where-due, group-answered, storeInRange, store-answered}
+use Rattle.slot_file.proofs.Units.{Units, exact-parts}
+use Rattle.slot_file.proofs.Agreement.{accepted-answer, same-answer, summed-counts}
+
+-- DEMAND 1
+pub accepted-exactly : (s : List ℕ) → Checked s (told (verdict s))
+accepted-exactly s = record {
+  accepted = (yes (verdict s) refl, λ a. rw (exactly-when s (accepted (a .0)) .1 (a .1)) refl);
+  refused = λ z. no (verdict s) refl z .0;
+  no-figures = λ z. no (verdict s) refl z .1;
+}
+  where
+    yes : (v : Verdict) → verdict s ≡ v → told v .number ≡ 0 → (c : Chains) × Accepts s c
+    yes (accepted c) e z = (c, exactly-when s (accepted c) .0 e)
+    yes (refused n k) e z = absurd (omega (arith, refused-answer s n k e .1, z))
+
+    no : (v : Verdict) → verdict s ≡ v → (told v .number ≡ 0 → ⊥) → Refuses s (told v .number) (told v .slot) × (answer s ≡ refusal (told v .number) (told v .slot))
+    no (accepted c) e z = absurd (z refl)
+    no (refused n k) e z = (exactly-when s (refused n k) .0 e, refused-answer s n k e .0)
+
+-- what holds of each is kept where a list is turned round and mapped
+each-onto : {A B : Type 0} (P : B → Type 0) (f : A → B) (l m : List A) → Each (λ x. P (f x)) l → Each P (map f m) → Each P (map f (reverseAux l m))
+each-onto P f [] m h k = k
+each-onto P f (x ∷ l) m h k = each-onto P f l (x ∷ m) (h .1) (h .0, k)
+
+store-gives : (r : Store) → storeInRange r ≡ true → StoreGives r
+store-gives (Handling h) e = record { code = ap (λ (x : Emission). x .code) (handling-emitted h e); exactly = handling-exactly h e }
+store-gives (Standing s) e = record { code = ap (λ (x : Emission). x .code) (standing-emitted s e); exactly = standing-exactly s e }
+store-gives (Aspiration a) e = record { code = ap (λ (x : Emission). x .code) (aspiration-emitted a e); exactly = aspiration-exactly a e }
+
+module _ (s : List ℕ) (h : AllYes (headAsks s)) where
+  group-gives : (c : Chains) (g : ℕ) → AllYes (groupAsks s c g) → GroupGives (temperaturesAt s) (groupAt s g)
+  unfolding emissionsOf emissionOf
+  group-gives c g a p l =
+      let v = groupAt s g in
+      let ts = temperaturesAt s in
+      let e = group-answered s c g a h in
+      record {
+        code = ap (λ (x : Emission). x .code) (ap (λ (es : List Emission). getD es p noEmission) e ∙ listTo-at noEmission emissionCount (λ (m : ℕ). emissionOf (v .group) ts (getD (v .coefficients) m noCoefficients) m) p l);
+        exactly = group-exactly (v .group) ts (v .coefficients) (all-in-range s c g a h) (zero-where-due s c g a) p l;
+      }
+
+  each-group : (gs : List ℕ) → Good (λ (b : List ℕ). groupAsks s (groupsSoFar b)) gs → Each (λ g. GroupGives (temperaturesAt s) (groupAt s g)) gs
+  each-group [] w = tt
+  each-group (g ∷ b) w = (group-gives (groupsSoFar b) g (w .0), each-group b (w .1))
+
+  each-store : (c : Chains) (ss : List ℕ) → Good (λ (b : List ℕ). storeAsks s (storesSoFar c b)) ss → Each (λ k. StoreGives (storeAt s k)) ss
+  each-store c [] w = tt
+  each-store c (k ∷ b) w = (store-gives (storeAt s k) (store-answered s (storesSoFar c b) k (w .0) .1), each-store c b (w .1))
+
+map-at : (f : ℕ → ℕ) (l : List ℕ) (i : ℕ) → i < length l → getD (map f l) i 0 ≡ f (getD l i 0)
+map-at f [] i h = absurd (not-suc-le-zero h)
+map-at f (x ∷ l) zero h = refl
+map-at f (x ∷ l) (suc i) h = map-at f l i (le-of-suc-le-suc h)
+
+module _ (s : List ℕ) (c : Chains) (v : verdict s ≡ accepted c) where
+  -- DEMAND 2
+  pub each-source : Worked s c (inventoryAt s c)
+  unfolding inventoryAt
+  each-source =
+      let a = exactly-when s (accepted c) .0 v in
+      record {
+        groups = each-onto (GroupGives (temperaturesAt s)) (groupAt s) (c .groups) [] (each-group s (a .head) (c .groups) (a .groups .good)) tt;
+        stores = each-onto StoreGives (storeAt s) (c .stores) [] (each-store s (a .head) c (c .stores) (a .stores .good)) tt;
+        counts = ap (λ r. r .counts) (accepted-answer s c v) ∙ summed-counts s c;
+      }
+
+  -- DEMAND 3, of every accepted file
+  pub figures-rounded : (i : ℕ) → i < codeCount → FiguresRounded s (contributions (inventoryAt s c)) i
+  unfolding summed annualFigure peakFigure
+  figures-rounded i h =
+      let xs = contributions (inventoryAt s c) in
+      let a = exact-parts (λ (x : Contribution). x .tonnes) tonneParts (lit< tt) (λ (x : Contribution) (u : Units x). u .annual) (getD codes i 0) 1000000 (inventoryAt s c) in
+      let p = exact-parts (λ (x : Contribution). x .rate) gramParts (lit< tt) (λ (x : Contribution) (u : Units x). u .peak) (getD codes i 0) 10000000 (inventoryAt s c) in
+      record {
+        annual = rw (accepted-answer s c v, map-at (annualFigure xs) codes i h) (rounded _ (a .left));
+        peak = rw (accepted-answer s c v, map-at (peakFigure xs) codes i h) (rounded _ (p .left));
+      }
+
+-- DEMAND 3: "Every two such files alike in the twelve temperatures, month by month, in their vehicle groups, each with its own coefficients for the six pollutants,
+-- and in their store records, repeats included, get the same answers: every annual figure, every peak figure and both counts. This holds whatever order either file
+-- has its slots and chains in, and however either shares its coefficient slots": the two accepted files are s and t, with any chains
+pub same-answers : (s t : List ℕ) (c d : Chains) → verdict s ≡ accepted c → verdict t ≡ accepted d → AlikeFiles (inventoryAt s c) (inventoryAt t d) → answer s ≡ answer t
+same-answers s t c d p q a = accepted-answer s c p ∙ same-answer (inventoryAt s c) (inventoryAt t d) a ∙ sym (accepted-answer t d q)

@@ -1,0 +1,72 @@
+-- The letter's three demands, as what is claimed of a file. The claims are proved in `proofs/Demands`.
+use Prim.Native.Nat.{ℕ, _<_, _≤_}
+use mathlib.Core.Path.{_≡_}
+use mathlib.Core.Logic.{_↔_}
+use mathlib.Core.Bool.{true, false}
+use mathlib.Core.List.{List, [], _∷_}
+use lib.IntN.{ℤ}
+use lib.ListN.{getD}
+use Rattle.sums.specs.Fraction.{whole, _⊙_}
+use Rattle.sums.specs.Figures.{Rounded}
+use Rattle.sums.specs.Answer.{Contribution, noEmission}
+use Rattle.sums.specs.Exactness.{Exactly}
+use Rattle.sums.specs.declared.answer.Emission.{Emission}
+use Rattle.sums.specs.declared.answer.Verdict as answer
+use Rattle.vehicles.specs.Fields.{noCoefficients}
+use Rattle.vehicles.specs.Rules.{emissionCount, contributionOf, groupAnswer}
+use Rattle.stores.specs.Rules.{handlingContribution, standingContribution, aspirationContribution, handlingAnswer, standingAnswer, aspirationAnswer}
+use Rattle.slots.specs.declared.store.Store.{Store}
+use Rattle.slots.specs.declared.store.Store.the-variants.{Handling, Standing, Aspiration}
+use Rattle.slot_file.specs.Sources.{VehicleGroup, Chains, Inventory, inventoryAt}
+use Rattle.slot_file.specs.Questions.{slotCount, member, reachedOf}
+use Rattle.slot_file.specs.Meaning.{Accepts, Refuses}
+use Rattle.slot_file.specs.Codes.{codes, codeCount}
+use Rattle.slot_file.specs.Figures.{contributions, exactSum, countsOf, refusal, answer}
+
+-- DEMAND 1: "either accepted or refused by number and slot. It is accepted exactly when every question in document 01 is answered yes"; "A refusal gives no
+-- figures": of a check's number and slot
+pub record Checked (s : List ℕ) (v : answer.Verdict) : Type 0 where
+  pub accepted : (v .number ≡ 0) ↔ ((c : Chains) × Accepts s c)
+  pub refused : (v .number ≡ 0 → ⊥) → Refuses s (v .number) (v .slot)
+  pub no-figures : (v .number ≡ 0 → ⊥) → answer s ≡ refusal (v .number) (v .slot)
+
+-- "the lowest unreached for 12": the slot k of a refusal by question 12, where the chains are c
+pub record LowestUnreached (s : List ℕ) (c : Chains) (n k : ℕ) : Type 0 where
+  pub number : n ≡ 12
+  pub from : 1 ≤ k
+  pub below : k < slotCount s
+  pub out : member k (reachedOf s c) ≡ false
+  pub lower : (j : ℕ) → 1 ≤ j → j < k → member j (reachedOf s c) ≡ true
+
+-- an emission is just what is given: its code, and its tonnes and grams with "nothing rounded on the way"
+pub record Gives (e : Emission) (x : Contribution) : Type 0 where
+  pub code : e .code ≡ x .code
+  pub exactly : Exactly e (x .tonnes) (x .rate)
+
+-- "of each source and each pollutant": what the rules answer of a group, and of a store record, is what the methodology's formulas and tables give
+abbrev pub GroupGives : List ℤ → VehicleGroup → Type 0
+GroupGives ts v =
+    (p : ℕ) → p < emissionCount
+    → Gives (getD (groupAnswer (v .group) ts (v .coefficients) .emissions) p noEmission) (contributionOf (v .group) ts (getD (v .coefficients) p noCoefficients) p)
+
+abbrev pub StoreGives : Store → Type 0
+StoreGives (Handling h) = Gives (handlingAnswer h .emission) (handlingContribution h)
+StoreGives (Standing s) = Gives (standingAnswer s .emission) (standingContribution s)
+StoreGives (Aspiration a) = Gives (aspirationAnswer a .emission) (aspirationContribution a)
+
+abbrev pub Each : {A : Type 0} → (A → Type 0) → List A → Type 0
+Each P [] = Unit {0}
+Each P (x ∷ xs) = P x × Each P xs
+
+-- DEMAND 2: "For an accepted file, the annual mass and the peak rate of each source and each pollutant are the fractions that the methodology's formulas and tables
+-- give ... The answer also says how many vehicle groups and store records were summed, and those are the lengths of the two chains"
+pub record Worked (s : List ℕ) (c : Chains) (v : Inventory) : Type 0 where
+  pub groups : Each (GroupGives (v .temperatures)) (v .groups)
+  pub stores : Each StoreGives (v .stores)
+  pub counts : answer s .counts ≡ countsOf c
+
+-- DEMAND 3: "In every accepted file each figure equals the exact sum over all sources, the annual one over all months too, rounded once": at the place i of the
+-- listing, in millionths of a tonne and ten-millionths of a gram per second, of that place's code; what each source gives is xs
+pub record FiguresRounded (s : List ℕ) (xs : List Contribution) (i : ℕ) : Type 0 where
+  pub annual : Rounded (getD (answer s .annual) i 0) (exactSum (λ (x : Contribution). x .tonnes) (getD codes i 0) xs ⊙ whole 1000000)
+  pub peak : Rounded (getD (answer s .peak) i 0) (exactSum (λ (x : Contribution). x .rate) (getD codes i 0) xs ⊙ whole 10000000)
