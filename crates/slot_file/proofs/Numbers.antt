@@ -3,7 +3,7 @@ use Prim.Native.Nat.{ℕ, zero, suc, _+_, _≤_}
 use native.Mathlib.Omega.{arith}
 use mathlib.Core.Path.{_≡_}
 use mathlib.Core.List.{List, [], _∷_, _++_}
-use Rattle.vehicles.specs.Fields.{pollutantCount}
+use Rattle.vehicle_fields.specs.Fields.{pollutantCount}
 use Rattle.slots.specs.Bytes.{slotOf}
 use Rattle.slots.specs.Layout.{groupRead, readStore, readNumber}
 use Rattle.slot_file.specs.Sources.{Chains}

@@ -6,10 +6,10 @@ use mathlib.Core.List.{List, [], _∷_}
 use lib.Dec.{leb, eqb}
 use lib.IntN.{ℤ}
 use Rattle.sums.specs.Choice.{if_then_else, allOf, listTo}
-use Rattle.vehicles.specs.Fields.{groupInRange, coefficientsInRange}
-use Rattle.vehicles.specs.declared.group.Distances.{Distances}
-use Rattle.vehicles.specs.declared.group.Group.{Group}
-use Rattle.vehicles.specs.declared.group.Coefficients.{Coefficients}
+use Rattle.vehicle_fields.specs.Fields.{groupInRange, coefficientsInRange}
+use Rattle.vehicle_fields.specs.declared.group.Distances.{Distances}
+use Rattle.vehicle_fields.specs.declared.group.Group.{Group}
+use Rattle.vehicle_fields.specs.declared.group.Coefficients.{Coefficients}
 use Rattle.stores.specs.Fields.{handlingInRange, standingInRange, aspirationInRange}
 use Rattle.stores.specs.declared.records.Bulk.{Bulk}
 use Rattle.stores.specs.declared.records.Handling as handling

@@ -14,10 +14,10 @@ use stores::Aspiration;
 use stores::Handling;
 use stores::Standing;
 use stores::StoreAnswer;
-use vehicles::Coefficients;
-use vehicles::Group;
+use vehicle_fields::Coefficients;
+use vehicle_fields::Group;
+use vehicle_fields::POLLUTANTS;
 use vehicles::GroupAnswer;
-use vehicles::POLLUTANTS;
 
 // The numbers of a store rule's answer at the start of `out`; false, and nothing written, where it has room for fewer.
 fn give_store(a: StoreAnswer, out: &mut [u64]) -> bool

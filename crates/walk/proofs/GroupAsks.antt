@@ -1,15 +1,15 @@
 -- All that is asked of a link to a group: of the link, of the coefficient links, and question 11. Assumes nothing.
 use Prim.Native.Nat.{ℕ}
 use mathlib.Core.Path.{_≡_, sym, ap, _∙_, subst}
-use mathlib.Core.Bool.{Bool, not}
+use mathlib.Core.Bool.{Bool}
 use mathlib.Core.List.{List, [], _∷_, _++_, append-assoc}
 use native.Mathlib.Omega.{arith}
 use native.Mathlib.Decide.{decLt}
 use Rattle.sums.specs.declared.answer.Verdict.{Verdict}
-use Rattle.vehicles.specs.Fields.{pollutantCount}
-use Rattle.vehicles.specs.Rules.{notZero}
-use Rattle.vehicles.specs.declared.group.Group.{Group}
-use Rattle.vehicles.specs.declared.group.Coefficients.{Coefficients}
+use Rattle.vehicle_fields.specs.Fields.{pollutantCount}
+use Rattle.vehicle_fields.specs.SootAndLead.{zeroWhereDue}
+use Rattle.vehicle_fields.specs.declared.group.Group.{Group}
+use Rattle.vehicle_fields.specs.declared.group.Coefficients.{Coefficients}
 use Rattle.slots.specs.Bytes.{slotOf}
 use Rattle.slots.specs.Layout.{groupRead}
 use Rattle.slots.specs.declared.group.GroupRead.{GroupRead}
@@ -28,7 +28,7 @@ module _ (s : List ℕ) (c : Chains) (g : ℕ) where
   rows = rowsAsks s g pollutantCount ++ afterSixth s g ∷ []
 
   abbrev pub eleven : List Question
-  eleven = question (not (notZero (groupAt s g .group) (groupAt s g .coefficients))) 11 g ∷ []
+  eleven = question (zeroWhereDue (groupAt s g .group) (groupAt s g .coefficients)) 11 g ∷ []
 
   asks-are : link ++ (rows ++ eleven) ≡ groupAsks s c g
   unfolding groupAsks closingAsks
@@ -52,5 +52,5 @@ module _ (s : List ℕ) (c : Chains) (g : ℕ) where
         subst (λ (l : List Question). Told l v) asks-are (told-after link (rows ++ eleven) a (elim (decLt 0 (before .number)) [
           | yes l ↦ (let z : before .number ≡ 0 → ⊥ = λ z. omega arith in subst (Told (rows ++ eleven)) (sym (t .kept z)) (told-before rows eleven r z))
           | no l ↦ (let z : before .number ≡ 0 = omega arith in
-              told-after rows eleven (r .all z) (subst (λ (x : Bool). Told (question (not x) 11 g ∷ []) v) (λ i. notZero (e i) (f z i)) (t .told z)))
+              told-after rows eleven (r .all z) (subst (λ (x : Bool). Told (question x 11 g ∷ []) v) (λ i. zeroWhereDue (e i) (f z i)) (t .told z)))
         ]))

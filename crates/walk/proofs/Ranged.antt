@@ -6,12 +6,12 @@ use mathlib.Core.Bool.{Bool, true, false, not}
 use mathlib.Core.List.{List, [], _∷_}
 use lib.Dec.{T, leb, eqb}
 use lib.ListN.{getD}
-use borrow.Author.Tests.{not-true}
 use Rattle.sums.specs.Choice.{if_then_else}
 use Rattle.sums.proofs.Choices.{nth, allTo-of, listTo-at}
 use Rattle.stores.specs.Fields.{handlingInRange, standingInRange, aspirationInRange}
-use Rattle.vehicles.specs.Fields.{pollutantCount, noCoefficients, groupInRange, coefficientsInRange, allInRange}
-use Rattle.vehicles.specs.Rules.{inRange, notZero, emissionsOf, groupAnswer}
+use Rattle.vehicle_fields.specs.Fields.{pollutantCount, noCoefficients, groupInRange, coefficientsInRange, allInRange, inRange}
+use Rattle.vehicle_fields.specs.SootAndLead.{zeroWhereDue}
+use Rattle.vehicles.specs.Rules.{emissionsOf, groupAnswer}
 use Rattle.slots.specs.Bytes.{byteAt, numberOf, zeroFrom, slotOf}
 use Rattle.slots.specs.Layout.{groupOf, groupGood, groupRead, coefficientsOf, coefficientsGood, coefficientsRead, handlingOf, handlingGood, standingOf, standingGood, aspirationOf, aspirationGood, storeKind, byKind, storeOf, storeGood, readStore}
 use Rattle.slots.specs.declared.store.Store.{Store}
@@ -52,9 +52,9 @@ module _ (s : List ℕ) (c : Chains) (g : ℕ) (a : AllYes (groupAsks s c g)) wh
   unfolding allInRange
   rows-in-range = allTo-of pollutantCount (λ (p : ℕ). coefficientsInRange (getD (groupAt s g .coefficients) p noCoefficients)) row-in-range
 
-  zero-where-due : notZero (groupAt s g .group) (groupAt s g .coefficients) ≡ false
+  zero-where-due : zeroWhereDue (groupAt s g .group) (groupAt s g .coefficients) ≡ true
   unfolding groupAsks linkAsks closingAsks
-  zero-where-due = not-true _ (all-right (rowsAsks s g pollutantCount) (closingAsks s g) (a .1 .1 .1 .1) .1 .0)
+  zero-where-due = all-right (rowsAsks s g pollutantCount) (closingAsks s g) (a .1 .1 .1 .1) .1 .0
 
   -- the group's rule answers what it gives
   pub group-answered : AllYes (headAsks s)

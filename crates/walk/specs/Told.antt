@@ -1,12 +1,12 @@
 -- What a list of questions is answered by a number and a slot: 0 where each is answered yes, and else those of the first that is answered no.
 use Prim.Native.Nat.{ℕ, _<_, _-_}
 use mathlib.Core.Path.{_≡_}
-use mathlib.Core.Bool.{Bool, not}
+use mathlib.Core.Bool.{Bool}
 use mathlib.Core.List.{List, [], _∷_}
 use Rattle.sums.specs.declared.answer.Verdict.{Verdict}
-use Rattle.vehicles.specs.Rules.{notZero}
-use Rattle.vehicles.specs.declared.group.Group.{Group}
-use Rattle.vehicles.specs.declared.group.Coefficients.{Coefficients}
+use Rattle.vehicle_fields.specs.SootAndLead.{zeroWhereDue}
+use Rattle.vehicle_fields.specs.declared.group.Group.{Group}
+use Rattle.vehicle_fields.specs.declared.group.Coefficients.{Coefficients}
 use Rattle.slots.specs.Bytes.{slotOf}
 use Rattle.slots.specs.Layout.{coefficientsRead}
 use Rattle.slots.specs.declared.coefficients.CoefficientsRead.{CoefficientsRead}
@@ -32,7 +32,7 @@ RowTold s holder link n row v =
 -- of question 11, after what was told before
 pub record SootTold (before : Verdict) (g : Group) (ks : List Coefficients) (k : ℕ) (v : Verdict) : Type 0 where
   pub kept : (before .number ≡ 0 → ⊥) → v ≡ before
-  pub told : before .number ≡ 0 → Told (question (not (notZero g ks)) 11 k ∷ []) v
+  pub told : before .number ≡ 0 → Told (question (zeroWhereDue g ks) 11 k ∷ []) v
 
 -- of every slot from 1 up, whatever slots the marks are of
 abbrev pub ReachTold : List Bool → ℕ → Verdict → Type 0

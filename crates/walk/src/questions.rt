@@ -10,9 +10,9 @@ use slots::CoefficientsRead;
 use slots::Header;
 use slots::SLOT_SIZE;
 use sums::Verdict;
-use vehicles::Coefficients;
-use vehicles::Group;
-use vehicles::POLLUTANTS;
+use vehicle_fields::Coefficients;
+use vehicle_fields::Group;
+use vehicle_fields::POLLUTANTS;
 
 pub(crate) fn accept() -> Verdict
     ensures { λ r. ⌜ r ≡ record { number = 0; slot = 0 } ⌝ }
@@ -49,7 +49,7 @@ pub(crate) fn ask_head(file: &[u8], h: Header) -> Verdict
         return refuse(4, 0);
     }
     let temperatures = h.temperatures;
-    if !vehicles::temperatures_in_range(temperatures) {
+    if !vehicle_fields::temperatures_in_range(temperatures) {
         return refuse(5, 0);
     }
     accept()
@@ -122,7 +122,7 @@ pub(crate) fn ask_soot_and_lead(
     if before.number != 0 {
         return before;
     }
-    if vehicles::forbidden_soot_or_lead(group, coefficients) {
+    if !vehicle_fields::zero_where_due(group, coefficients) {
         return refuse(11, link);
     }
     before

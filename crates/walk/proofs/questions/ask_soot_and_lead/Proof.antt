@@ -1,7 +1,7 @@
 -- What was told before, and else question 11.
+use borrow.Author.Tests.{not-true, not-false}
 use native.Mathlib.Omega.{arith}
-use mathlib.Core.Path.{refl, sym, ap, _∙_}
-use mathlib.Core.Bool.{not}
+use mathlib.Core.Path.{refl, sym, _∙_}
 use Rattle.slot_file.specs.Meaning.{here}
 use Rattle.walk.proofs.Telling.{told-no}
 use Rattle.walk.proofs.questions.ask_soot_and_lead.Statement.{statement}
@@ -15,7 +15,7 @@ returns-2 c =
     let b = c .before .before in
     record {
       kept = λ z. absurd (z (b .before .if1 .left));
-      told = λ _. told-no 11 _ (c .refuse .ensures) (omega arith) (here _ _ (ap not (sym (b .forbidden-soot-or-lead .ensures) ∙ c .before .if2 .taken)));
+      told = λ _. told-no 11 _ (c .refuse .ensures) (omega arith) (here _ _ (sym (b .zero-where-due .ensures) ∙ not-true _ (c .before .if2 .taken)));
     }
 
 returns-3 : tie.Need-returns-3
@@ -23,7 +23,7 @@ returns-3 c =
     let b = c .before in
     record {
       kept = λ z. absurd (z (b .before .if1 .left));
-      told = λ y. record { all = λ _. (ap not (sym (b .forbidden-soot-or-lead .ensures) ∙ c .if2 .left), tt); first = λ w. absurd (w y) };
+      told = λ y. record { all = λ _. (sym (b .zero-where-due .ensures) ∙ not-false _ (c .if2 .left), tt); first = λ w. absurd (w y) };
     }
 
 pub ask-soot-and-lead-spec : {M : Type 1} → statement M
