@@ -10,7 +10,7 @@ use Rattle.vehicle_fields.specs.declared.units.PerMinute.{PerMinute}
 use Rattle.vehicle_fields.specs.declared.units.PerKilometre.{PerKilometre}
 use Rattle.vehicle_fields.specs.declared.group.Group.{Group}
 use Rattle.vehicle_fields.specs.declared.group.Coefficients.{Coefficients}
-use Rattle.stores.specs.declared.records.Bulk.{Bulk}
+use Rattle.store_records.specs.declared.records.Bulk.{Bulk}
 use Rattle.slots.specs.declared.store.Store.{Store}
 use Rattle.slots.specs.declared.store.Store.the-variants.{Handling, Standing, Aspiration}
 use Rattle.slot_file.specs.Sources.{VehicleGroup, Inventory}

@@ -4,7 +4,7 @@ ghost use Prim.Native.Nat.{_+_, _*_, _≤_};
 ghost use lib.ListN.{length};
 ghost use Rattle.vehicle_fields.specs.Fields.{pollutantCount};
 ghost use Rattle.tezhebul.specs.Fields.{bulkOf, lengths, distancesAt, groupOf, coefficientsAt, rowSize, rowsOf};
-use stores::Bulk;
+use store_records::Bulk;
 use vehicle_fields::Coefficients;
 use vehicle_fields::Distances;
 use vehicle_fields::Group;

@@ -10,9 +10,9 @@ ghost use Rattle.tezhebul.specs.Numbers.{storeNumbers, storeSize, groupN
 ghost use Rattle.tezhebul.specs.Fields.{handlingOf, standingOf, aspirationOf, lengths, groupOf, rowsOf, flagged};
 use super::fields;
 use super::numbers;
-use stores::Aspiration;
-use stores::Handling;
-use stores::Standing;
+use store_records::Aspiration;
+use store_records::Handling;
+use store_records::Standing;
 use stores::StoreAnswer;
 use vehicle_fields::Coefficients;
 use vehicle_fields::Group;

@@ -8,7 +8,7 @@ use lib.Dec.{T, leb, eqb}
 use lib.ListN.{getD}
 use Rattle.sums.specs.Choice.{if_then_else}
 use Rattle.sums.proofs.Choices.{nth, allTo-of, listTo-at}
-use Rattle.stores.specs.Fields.{handlingInRange, standingInRange, aspirationInRange}
+use Rattle.store_records.specs.Fields.{handlingInRange, standingInRange, aspirationInRange}
 use Rattle.vehicle_fields.specs.Fields.{pollutantCount, noCoefficients, groupInRange, coefficientsInRange, allInRange, inRange}
 use Rattle.vehicle_fields.specs.SootAndLead.{zeroWhereDue}
 use Rattle.vehicles.specs.Rules.{emissionsOf, groupAnswer}

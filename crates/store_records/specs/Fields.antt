@@ -3,10 +3,10 @@ use mathlib.Core.Bool.{Bool, _||_}
 use mathlib.Core.List.{List, [], _∷_}
 use lib.Dec.{leb, eqb}
 use Rattle.sums.specs.Choice.{allOf}
-use Rattle.stores.specs.declared.records.Bulk.{Bulk}
-use Rattle.stores.specs.declared.records.Handling.{Handling}
-use Rattle.stores.specs.declared.records.Standing.{Standing}
-use Rattle.stores.specs.declared.records.Aspiration.{Aspiration}
+use Rattle.store_records.specs.declared.records.Bulk.{Bulk}
+use Rattle.store_records.specs.declared.records.Handling.{Handling}
+use Rattle.store_records.specs.declared.records.Standing.{Standing}
+use Rattle.store_records.specs.declared.records.Aspiration.{Aspiration}
 
 -- "3 dust code, 1 .. 2 .. 3 ... 4..5 store number, 1 or more ... Handling and standing: 6 material, 1 to 9. 8..9 wind, 0 to 140 ...
 -- 10..11 moisture, 0 to 1,000 ... 12..13 grain, any ... 14 openness, 1 to 7. 20..23 amount, 0 to 1,000,000"

@@ -1,6 +1,6 @@
 // The fields of store records, and whether each is in its range.
 ghost use mathlib.Core.Path.{_≡_};
-ghost use Rattle.stores.specs.Fields.{bulkInRange, handlingInRange, standingInRange, aspirationInRange};
+ghost use Rattle.store_records.specs.Fields.{bulkInRange, handlingInRange, standingInRange, aspirationInRange};
 
 // What handling and standing records have in common. Wind is in tenths of a metre a second, moisture in tenths of a percent, grain in
 // millimetres; the amount is in kilograms per 20 minutes where the material is handled, in square metres where it stands.
