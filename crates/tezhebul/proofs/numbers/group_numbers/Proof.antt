@@ -9,7 +9,7 @@ use lib.Seq.{sets, sets-eq, drop-cons}
 use Rattle.sums.specs.Answer.{noEmission}
 use Rattle.sums.specs.Figures.{wordsOf}
 use Rattle.vehicles.specs.Rules.{emissionCount}
-use Rattle.listing.proofs.Writing.{Due, turn, done}
+use Rattle.listing_lines.proofs.Writing.{Due, turn, done}
 use Rattle.tezhebul.specs.Numbers.{emissionNumbers, emissionSize, emissionsNumbers, groupSize}
 use Rattle.tezhebul.proofs.numbers.group_numbers.Statement.{statement}
 use Rattle.tezhebul.proofs.numbers.group_numbers.Tie as tie

@@ -7,7 +7,7 @@ use mathlib.Core.List.{_++_, append-nil}
 use lib.ListN.{length}
 use lib.Seq.{sets-eq}
 use Rattle.slot_file.specs.Codes.{codeCount}
-use Rattle.listing.proofs.Writing.{then}
+use Rattle.listing_lines.proofs.Writing.{then}
 use Rattle.tezhebul.specs.Numbers.{answerSize}
 use Rattle.tezhebul.proofs.numbers.numbers_of.Statement.{statement}
 use Rattle.tezhebul.proofs.numbers.numbers_of.Tie as tie
