@@ -5,9 +5,9 @@ use mathlib.Core.Path.{refl, sym, _∙_}
 use native.Mathlib.Nat.{zero-add}
 use lib.Seq.{sets-eq}
 use Rattle.sums.proofs.Choices.{yes, no}
-use Rattle.tezhebul.specs.Numbers.{into}
-use Rattle.tezhebul.proofs.numbers.give.Statement.{statement}
-use Rattle.tezhebul.proofs.numbers.give.Tie as tie
+use Rattle.answer_numbers.specs.Numbers.{into}
+use Rattle.answer_numbers.proofs.numbers.give.Statement.{statement}
+use Rattle.answer_numbers.proofs.numbers.give.Tie as tie
 
 returns : tie.Need-returns
 unfolding into

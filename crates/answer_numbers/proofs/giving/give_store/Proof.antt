@@ -1,7 +1,7 @@
 -- The numbers of the answer, as many as there are.
 use native.Mathlib.Omega.{arith}
-use Rattle.tezhebul.proofs.rules.give_store.Statement.{statement}
-use Rattle.tezhebul.proofs.rules.give_store.Tie as tie
+use Rattle.answer_numbers.proofs.giving.give_store.Statement.{statement}
+use Rattle.answer_numbers.proofs.giving.give_store.Tie as tie
 
 pub give-store-spec : {M : Type 1} → statement M
 give-store-spec =

@@ -8,9 +8,9 @@ use lib.ListN.{length}
 use lib.Seq.{sets-eq}
 use Rattle.slot_file.specs.Codes.{codeCount}
 use Rattle.listing_lines.proofs.Writing.{then}
-use Rattle.tezhebul.specs.Numbers.{answerSize}
-use Rattle.tezhebul.proofs.numbers.numbers_of.Statement.{statement}
-use Rattle.tezhebul.proofs.numbers.numbers_of.Tie as tie
+use Rattle.answer_numbers.specs.Numbers.{answerSize}
+use Rattle.answer_numbers.proofs.numbers.numbers_of.Statement.{statement}
+use Rattle.answer_numbers.proofs.numbers.numbers_of.Tie as tie
 
 put-numbers-requires : tie.Need-put-numbers-requires
 put-numbers-requires c κs =

@@ -1,5 +1,7 @@
 -- An answer as numbers, for a caller that has no structs of ours.
 use Prim.Native.Nat.{ℕ, _+_, _*_}
+use mathlib.Core.Path.{_≡_}
+use mathlib.Core.Bool.{Bool}
 use mathlib.Core.List.{List, [], _∷_, _++_}
 use lib.Dec.{leb}
 use lib.ListN.{length, drop}
@@ -28,6 +30,10 @@ answerSize = 4 + 2 * codeCount
 -- the numbers at the start of a buffer, where they fit, and nothing else changed
 unfoldable pub into : List ℕ → List ℕ → List ℕ
 into l buffer = if_then_else (leb (length l) (length buffer)) (l ++ drop (length l) buffer) buffer
+
+-- so many numbers handed over at the start of a buffer: true where it has room for them
+abbrev pub Given : ℕ → List ℕ → List ℕ → Bool → List ℕ → Type 0
+Given size l before r after = (r ≡ leb size (length before)) × (after ≡ into l before)
 
 -- an emission: the substance code, then the exact annual sum and the exact peak sum, each as whole printed units and the part of one that is left, over its denominator
 abbrev pub emissionNumbers : Emission → List ℕ

@@ -2,8 +2,8 @@
 use native.Mathlib.Omega.{arith}
 use mathlib.Core.Path.{ap, _∙_}
 use lib.Seq.{sets}
-use Rattle.tezhebul.proofs.numbers.store_numbers.Statement.{statement}
-use Rattle.tezhebul.proofs.numbers.store_numbers.Tie as tie
+use Rattle.answer_numbers.proofs.numbers.store_numbers.Statement.{statement}
+use Rattle.answer_numbers.proofs.numbers.store_numbers.Tie as tie
 
 returns : tie.Need-returns
 returns c = c .before .put-numbers .ensures ∙ ap (sets _ 2) (c .before .before .before .before .before .before .emission-numbers .ensures)

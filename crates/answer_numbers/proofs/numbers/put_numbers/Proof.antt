@@ -7,8 +7,8 @@ use Prim.Native.Nat.{_+_, _≤_, _-_}
 use mathlib.Core.Path.{_≡_, refl, sym, ap, _∙_}
 use lib.ListN.{length, drop, drop-of-length-le}
 use lib.Seq.{sets, drop-cons}
-use Rattle.tezhebul.proofs.numbers.put_numbers.Statement.{statement}
-use Rattle.tezhebul.proofs.numbers.put_numbers.Tie as tie
+use Rattle.answer_numbers.proofs.numbers.put_numbers.Statement.{statement}
+use Rattle.answer_numbers.proofs.numbers.put_numbers.Tie as tie
 
 abbrev Inv-loop : tie.InvT-loop
 Inv-loop numbers out₀ from i₀ out i =

@@ -10,9 +10,9 @@ use Rattle.sums.specs.Answer.{noEmission}
 use Rattle.sums.specs.Figures.{wordsOf}
 use Rattle.vehicles.specs.Rules.{emissionCount}
 use Rattle.listing_lines.proofs.Writing.{Due, turn, done}
-use Rattle.tezhebul.specs.Numbers.{emissionNumbers, emissionSize, emissionsNumbers, groupSize}
-use Rattle.tezhebul.proofs.numbers.group_numbers.Statement.{statement}
-use Rattle.tezhebul.proofs.numbers.group_numbers.Tie as tie
+use Rattle.answer_numbers.specs.Numbers.{emissionNumbers, emissionSize, emissionsNumbers, groupSize}
+use Rattle.answer_numbers.proofs.numbers.group_numbers.Statement.{statement}
+use Rattle.answer_numbers.proofs.numbers.group_numbers.Tie as tie
 
 abbrev Inv-loop : tie.InvT-loop
 Inv-loop es numbers₀ p₀ numbers p =

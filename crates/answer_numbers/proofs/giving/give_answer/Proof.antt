@@ -2,9 +2,9 @@
 use native.Mathlib.Omega.{arith}
 use mathlib.Core.Path.{_≡_}
 use lib.ListN.{length}
-use Rattle.tezhebul.specs.Numbers.{answerSize}
-use Rattle.tezhebul.proofs.files.give_answer.Statement.{statement}
-use Rattle.tezhebul.proofs.files.give_answer.Tie as tie
+use Rattle.answer_numbers.specs.Numbers.{answerSize}
+use Rattle.answer_numbers.proofs.giving.give_answer.Statement.{statement}
+use Rattle.answer_numbers.proofs.giving.give_answer.Tie as tie
 
 returns : tie.Need-returns
 returns c =

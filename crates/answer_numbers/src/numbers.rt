@@ -1,10 +1,9 @@
-// Answers as numbers, and numbers in the caller's memory.
+// Answers as numbers, and numbers in a caller's memory.
 ghost use mathlib.Core.Path.{_≡_};
 ghost use Prim.Native.Nat.{_+_, _≤_};
-ghost use lib.Dec.{leb};
 ghost use lib.ListN.{length};
 ghost use lib.Seq.{sets};
-ghost use Rattle.tezhebul.specs.Numbers.{numbersOf, emissionNumbers, ruleNumbers, storeNumbers, into};
+ghost use Rattle.answer_numbers.specs.Numbers.{Given, numbersOf, emissionNumbers, ruleNumbers, storeNumbers};
 use slot_file::Answer;
 use slot_file::COUNT;
 use stores::StoreAnswer;
@@ -35,7 +34,7 @@ fn put_numbers(numbers: &[u64], out: &mut [u64], from: usize)
 
 // Numbers at the start of `out`; false, and nothing written, where it has room for fewer.
 pub(crate) fn give(numbers: &[u64], out: &mut [u64]) -> bool
-    ensures { λ r. ⌜ (r ≡ leb (length (now (numbers .entry))) (length (now (out .entry)))) × (now (out .exit) ≡ into (now (numbers .entry)) (now (out .entry))) ⌝ }
+    ensures { λ r. ⌜ Given (length (now (numbers .entry))) (now (numbers .entry)) (now (out .entry)) r (now (out .exit)) ⌝ }
 {
     if out.len() < numbers.len() {
         return false;

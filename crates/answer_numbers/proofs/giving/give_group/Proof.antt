@@ -2,9 +2,9 @@
 use native.Mathlib.Omega.{arith}
 use mathlib.Core.Path.{_≡_}
 use lib.ListN.{length}
-use Rattle.tezhebul.specs.Numbers.{groupSize}
-use Rattle.tezhebul.proofs.rules.give_group.Statement.{statement}
-use Rattle.tezhebul.proofs.rules.give_group.Tie as tie
+use Rattle.answer_numbers.specs.Numbers.{groupSize}
+use Rattle.answer_numbers.proofs.giving.give_group.Statement.{statement}
+use Rattle.answer_numbers.proofs.giving.give_group.Tie as tie
 
 returns : tie.Need-returns
 returns c =
