@@ -20,7 +20,7 @@ fn line_end() {
 }
 
 fn show(file: &[u8]) {
-    let mut out = [0; listing::LISTING_ROOM];
+    let mut out = [0; listing_lines::LISTING_ROOM];
     let length = listing::print(file, &mut out);
     io::write_all(1, &out[..length]);
 }

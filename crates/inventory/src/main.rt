@@ -3,7 +3,7 @@
 // Prints the listing of a file, or its refusal line. Where it can't be written whole, standard error says so, unless the system ends the program first, as it does
 // where nobody reads a pipe any more.
 fn show(file: &[u8]) {
-    let mut out = [0; listing::LISTING_ROOM];
+    let mut out = [0; listing_lines::LISTING_ROOM];
     let length = listing::print(file, &mut out);
     if !io::write_all(1, &out[..length]) {
         os::fail(b"inventory: standard output");

@@ -1,19 +1,12 @@
 // The answer as bytes: the listing in a lent buffer, and what the program prints.
-mod lines;
-mod numbers;
-mod text;
-
 ghost use mathlib.Core.Path.{_≡_};
 ghost use mathlib.Core.List.{_++_};
 ghost use lib.ListN.{length, take, drop};
 ghost use Prim.Native.Nat.{_≤_};
 ghost use Rattle.slot_file.specs.Figures.{answer};
 ghost use Rattle.slot_file.specs.Listing.{printed, listed};
+use listing_lines::LISTING_ROOM;
 use slot_file::Answer;
-use slot_file::COUNT;
-
-// Room for any listing: the longest has 526 bytes.
-pub const LISTING_ROOM: usize = 64 * COUNT;
 
 // What a listing into a lent buffer answers: the answer itself, or refusal 13, and how many bytes were written.
 pub struct Listing {
@@ -32,7 +25,7 @@ fn list_answer(a: Answer, buffer: &mut [u8]) -> Listing
         };
     }
     let mut text = [0; LISTING_ROOM];
-    let length = lines::put_listing(&mut text, a);
+    let length = listing_lines::put_listing(&mut text, a);
     if buffer.len() < length {
         return Listing {
             answer: Answer::refusal(13, 0),
@@ -48,7 +41,7 @@ fn print_answer(a: Answer, out: &mut [u8; LISTING_ROOM]) -> usize
     ensures { λ r. ⌜ (r ≡ length (printed a)) × (now (out .exit) ≡ printed a ++ drop r (now (out .entry))) ⌝ }
 {
     let mut text = [0; LISTING_ROOM];
-    let length = lines::put_printed(&mut text, a);
+    let length = listing_lines::put_printed(&mut text, a);
     bytes::copy(&text[..length], out);
     length
 }

@@ -6,19 +6,19 @@ use super::numbers::is_at;
 use super::numbers::u8_at;
 use super::numbers::u16_at;
 use super::numbers::u32_at;
-use stores::Aspiration;
-use stores::Bulk;
-use stores::Handling;
-use stores::Standing;
-use vehicles::Coefficients;
-use vehicles::Distances;
-use vehicles::Group;
-use vehicles::Metres;
-use vehicles::Minutes;
-use vehicles::Neutraliser;
-use vehicles::POLLUTANTS;
-use vehicles::PerKilometre;
-use vehicles::PerMinute;
+use store_records::Aspiration;
+use store_records::Bulk;
+use store_records::Handling;
+use store_records::Standing;
+use vehicle_fields::Coefficients;
+use vehicle_fields::Distances;
+use vehicle_fields::Group;
+use vehicle_fields::Metres;
+use vehicle_fields::Minutes;
+use vehicle_fields::Neutraliser;
+use vehicle_fields::POLLUTANTS;
+use vehicle_fields::PerKilometre;
+use vehicle_fields::PerMinute;
 
 fn bulk(r: &Record) -> Bulk {
     Bulk {

@@ -14,7 +14,7 @@ use Rattle.sums.specs.declared.answer.Emission.{Emission}
 use Rattle.sums.proofs.Choices.{listTo-at}
 use Rattle.sums.proofs.Rounding.{rounded}
 use Rattle.stores.proofs.Exactly.{handling-emitted, handling-exactly, standing-emitted, standing-exactly, aspiration-emitted, aspiration-exactly}
-use Rattle.vehicles.specs.Fields.{noCoefficients}
+use Rattle.vehicle_fields.specs.Fields.{noCoefficients}
 use Rattle.vehicles.specs.Rules.{emissionCount, emissionOf, emissionsOf}
 use Rattle.vehicles.proofs.Bounds.{group-exactly}
 use Rattle.slots.specs.declared.store.Store.{Store}

@@ -9,9 +9,12 @@ use Rattle.sums.specs.Choice.{if_then_else, allTo, listTo}
 use Rattle.sums.specs.Fraction.{totalTo}
 use Rattle.sums.specs.Figures.{nearest}
 use Rattle.sums.specs.Table.{upTo}
-use Rattle.vehicles.specs.Fields.{temperaturesInRange, distancesInRange, daysInRange, groupInRange, coefficientsInRange, allZero}
-use Rattle.vehicles.specs.Rules.{below, place, tableMinutes, minutesAt, periodAt, controlOf, runAndIdle, outGrams, inGrams, monthGrams, annualTonnes, peakGrams, lowerOf, lowestTo, codeOf, notZero}
-use Rattle.stores.specs.Fields.{bulkInRange, handlingInRange, standingInRange, aspirationInRange}
+use Rattle.vehicle_fields.specs.Fields.{temperaturesInRange, distancesInRange, daysInRange, groupInRange, coefficientsInRange}
+use Rattle.vehicle_fields.specs.SootAndLead.{allZero, zeroWhereDue}
+use Rattle.warmups.specs.Temperatures.{below, place, lowerOf, lowestTo}
+use Rattle.warmups.specs.Warmup.{tableMinutes, minutesAt, periodAt}
+use Rattle.vehicles.specs.Rules.{controlOf, runAndIdle, outGrams, inGrams, monthGrams, annualTonnes, peakGrams, pollutantCode}
+use Rattle.store_records.specs.Fields.{bulkInRange, handlingInRange, standingInRange, aspirationInRange}
 use Rattle.stores.specs.Rules.{k6Of, handlingPeak, standingPeak, bulkTonnes, aspirationPeak, aspirationTonnes}
 use Rattle.slots.specs.Bytes.{bytesFrom, slotOf, i16At, zeroFrom, numberOf}
 use Rattle.slots.specs.Layout.{temperaturesOf, headerOf, daysOf, distancesAt, groupOf, groupGood, groupRead, coefficientsOf, coefficientsGood, coefficientsRead, bulkOf, handlingOf, handlingGood, standingOf, standingGood, aspirationOf, aspirationGood, storeKind, byKind, storeOf, storeGood, readBy, readStore}
@@ -48,7 +51,7 @@ answerOfB = record {
 }
 
 computed : Prints surveyed × Prints refusals × (answer fileOfB ≡ answerOfB) × Lent answerOfB
-unfolding answerOfB surveyed refusals flatMap if_then_else allTo listTo totalTo nearest upTo temperaturesInRange distancesInRange daysInRange groupInRange coefficientsInRange allZero below place tableMinutes minutesAt periodAt controlOf runAndIdle outGrams inGrams monthGrams annualTonnes peakGrams lowerOf lowestTo codeOf notZero bulkInRange handlingInRange standingInRange aspirationInRange k6Of handlingPeak standingPeak bulkTonnes aspirationPeak aspirationTonnes bytesFrom slotOf i16At zeroFrom numberOf temperaturesOf headerOf daysOf distancesAt groupOf groupGood groupRead coefficientsOf coefficientsGood coefficientsRead bulkOf handlingOf handlingGood standingOf standingGood aspirationOf aspirationGood storeKind byKind storeOf storeGood readBy readStore coefficientSlot groupAt storeAt temperaturesAt inventoryAt headAsks member linkAsks coefficientHolder coefficientAsks rowsAsks closingAsks coefficientSlots reachedBy groupAsks storeAsks reachAsks lastAsks first chain storeWalk groupWalk verdict groupContributions storeContributions gathered contributions exactSum annualFigure peakFigure summed answered answer text digits padded fixed line lines listing listed refusalLine printed
+unfolding answerOfB surveyed refusals flatMap if_then_else allTo listTo totalTo nearest upTo temperaturesInRange distancesInRange daysInRange groupInRange coefficientsInRange allZero below place tableMinutes minutesAt periodAt controlOf runAndIdle outGrams inGrams monthGrams annualTonnes peakGrams lowerOf lowestTo pollutantCode zeroWhereDue bulkInRange handlingInRange standingInRange aspirationInRange k6Of handlingPeak standingPeak bulkTonnes aspirationPeak aspirationTonnes bytesFrom slotOf i16At zeroFrom numberOf temperaturesOf headerOf daysOf distancesAt groupOf groupGood groupRead coefficientsOf coefficientsGood coefficientsRead bulkOf handlingOf handlingGood standingOf standingGood aspirationOf aspirationGood storeKind byKind storeOf storeGood readBy readStore coefficientSlot groupAt storeAt temperaturesAt inventoryAt headAsks member linkAsks coefficientHolder coefficientAsks rowsAsks closingAsks coefficientSlots reachedBy groupAsks storeAsks reachAsks lastAsks first chain storeWalk groupWalk verdict groupContributions storeContributions gathered contributions exactSum annualFigure peakFigure summed answered answer text digits padded fixed line lines listing listed refusalLine printed
 computed = (refl, refl, refl, (refl, refl, refl, refl, refl))
 
 pub as-surveyed : Prints surveyed × Prints refusals

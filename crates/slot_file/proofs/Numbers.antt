@@ -4,7 +4,7 @@ use native.Mathlib.Omega.{arith}
 use mathlib.Core.Path.{_≡_}
 use mathlib.Core.Bool.{Bool}
 use mathlib.Core.List.{List, [], _∷_, _++_}
-use Rattle.vehicles.specs.Fields.{pollutantCount}
+use Rattle.vehicle_fields.specs.Fields.{pollutantCount}
 use Rattle.slot_file.specs.Sources.{Chains}
 use Rattle.slot_file.specs.Questions.{lastNumber, Question, headAsks, groupsSoFar, storesSoFar, linkAsks, coefficientAsks, rowsAsks, closingAsks, groupLinkAsks, groupAsks, storeAsks, reachAsks, lastAsks, refused}
 use Rattle.slot_file.specs.Walk.{verdict}

@@ -6,12 +6,12 @@ use mathlib.Core.Bool.{Bool, true, false}
 use mathlib.Core.List.{List, [], _∷_, _++_}
 use lib.Dec.{leb, eqb}
 use lib.ListN.{getD}
-use borrow.Author.Tests.{not-true}
 use Rattle.sums.specs.Choice.{if_then_else}
 use Rattle.sums.proofs.Choices.{nth, allTo-of, listTo-at}
-use Rattle.stores.specs.Fields.{handlingInRange, standingInRange, aspirationInRange}
-use Rattle.vehicles.specs.Fields.{pollutantCount, noCoefficients, groupInRange, coefficientsInRange, allInRange}
-use Rattle.vehicles.specs.Rules.{inRange, notZero, emissionsOf, groupAnswer}
+use Rattle.store_records.specs.Fields.{handlingInRange, standingInRange, aspirationInRange}
+use Rattle.vehicle_fields.specs.Fields.{pollutantCount, noCoefficients, groupInRange, coefficientsInRange, allInRange, inRange}
+use Rattle.vehicle_fields.specs.SootAndLead.{zeroWhereDue}
+use Rattle.vehicles.specs.Rules.{emissionsOf, groupAnswer}
 use Rattle.slots.specs.Bytes.{byteAt, zeroFrom, slotOf}
 use Rattle.slots.specs.Layout.{groupOf, groupGood, groupRead, coefficientsOf, coefficientsGood, coefficientsRead, handlingOf, handlingGood, standingOf, standingGood, aspirationOf, aspirationGood, byKind, storeOf, storeGood, readBy, readStore}
 use Rattle.slots.specs.declared.store.Store.{Store}
@@ -45,9 +45,9 @@ module _ (s : List ℕ) (c : Chains) (g : ℕ) (a : AllYes (groupAsks s c g)) wh
   unfolding allInRange
   rows-in-range = allTo-of pollutantCount (λ (p : ℕ). coefficientsInRange (getD (groupAt s g .coefficients) p noCoefficients)) row-in-range
 
-  pub zero-where-due : notZero (groupAt s g .group) (groupAt s g .coefficients) ≡ false
+  pub zero-where-due : zeroWhereDue (groupAt s g .group) (groupAt s g .coefficients) ≡ true
   unfolding groupAsks closingAsks
-  zero-where-due = not-true _ (yes-at (closingAsks s g) (all-right (groupLinkAsks s c g ++ rows) (closingAsks s g) a) 1)
+  zero-where-due = yes-at (closingAsks s g) (all-right (groupLinkAsks s c g ++ rows) (closingAsks s g) a) 1
 
   pub all-in-range : AllYes (headAsks s) → inRange (groupAt s g .group) (temperaturesAt s) (groupAt s g .coefficients) ≡ true
   unfolding inRange headAsks temperaturesAt

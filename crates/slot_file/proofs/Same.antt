@@ -8,11 +8,11 @@ use lib.Dec.{eqb}
 use lib.ListN.{getD}
 use borrow.Author.Tests.{eqb-true, eq-eqb}
 use Rattle.sums.proofs.Choices.{left, right, nth}
-use Rattle.vehicles.specs.declared.units.PerMinute.{PerMinute}
-use Rattle.vehicles.specs.declared.units.PerKilometre.{PerKilometre}
-use Rattle.vehicles.specs.declared.group.Group.{Group}
-use Rattle.vehicles.specs.declared.group.Coefficients.{Coefficients}
-use Rattle.stores.specs.declared.records.Bulk.{Bulk}
+use Rattle.vehicle_fields.specs.declared.units.PerMinute.{PerMinute}
+use Rattle.vehicle_fields.specs.declared.units.PerKilometre.{PerKilometre}
+use Rattle.vehicle_fields.specs.declared.group.Group.{Group}
+use Rattle.vehicle_fields.specs.declared.group.Coefficients.{Coefficients}
+use Rattle.store_records.specs.declared.records.Bulk.{Bulk}
 use Rattle.slots.specs.Layout.{storeFields}
 use Rattle.slots.specs.declared.store.Store.{Store}
 use Rattle.slots.specs.declared.store.Store.the-variants.{Handling, Standing, Aspiration}

@@ -13,7 +13,7 @@ use Rattle.sums.specs.Fraction.{Frac, _over_, whole, _⊙_, _⊞_, _≈_, parts
 use Rattle.sums.specs.Figures.{tonneParts, gramParts}
 use Rattle.sums.proofs.Fractions.{≈-refl, ≈-⊙, ≈-⊞, ≈-over, parts}
 use Rattle.sums.specs.Exactness.{Counted}
-use Rattle.vehicles.specs.Fields.{noCoefficients}
+use Rattle.vehicle_fields.specs.Fields.{noCoefficients}
 use Rattle.vehicles.specs.Rules.{emissionCount}
 use Rattle.vehicles.proofs.Paper.{counted}
 use Rattle.stores.proofs.Paper.{handling-counted, standing-counted, aspiration-counted}

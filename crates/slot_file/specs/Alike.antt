@@ -6,10 +6,10 @@ use mathlib.Core.Bool.{Bool, true, false, _&&_, not}
 use mathlib.Core.List.{List, [], _∷_, _++_}
 use lib.Dec.{eqb}
 use Rattle.sums.specs.Choice.{allOf}
-use Rattle.vehicles.specs.declared.units.PerMinute.{PerMinute}
-use Rattle.vehicles.specs.declared.units.PerKilometre.{PerKilometre}
-use Rattle.vehicles.specs.declared.group.Group.{Group}
-use Rattle.vehicles.specs.declared.group.Coefficients.{Coefficients}
+use Rattle.vehicle_fields.specs.declared.units.PerMinute.{PerMinute}
+use Rattle.vehicle_fields.specs.declared.units.PerKilometre.{PerKilometre}
+use Rattle.vehicle_fields.specs.declared.group.Group.{Group}
+use Rattle.vehicle_fields.specs.declared.group.Coefficients.{Coefficients}
 use Rattle.slots.specs.Layout.{storeFields}
 use Rattle.slots.specs.declared.store.Store.{Store}
 use Rattle.slot_file.specs.Sources.{VehicleGroup, Inventory}

@@ -12,7 +12,7 @@ use Rattle.sums.specs.Answer.{Contribution, noEmission}
 use Rattle.sums.specs.Exactness.{Exactly}
 use Rattle.sums.specs.declared.answer.Emission.{Emission}
 use Rattle.sums.specs.declared.answer.Verdict as answer
-use Rattle.vehicles.specs.Fields.{noCoefficients}
+use Rattle.vehicle_fields.specs.Fields.{noCoefficients}
 use Rattle.vehicles.specs.Rules.{emissionCount, contributionOf, groupAnswer}
 use Rattle.stores.specs.Rules.{handlingContribution, standingContribution, aspirationContribution, handlingAnswer, standingAnswer, aspirationAnswer}
 use Rattle.slots.specs.declared.store.Store.{Store}

@@ -9,7 +9,7 @@ use Rattle.sums.specs.Choice.{if_then_else, listTo}
 use Rattle.sums.specs.Fraction.{Frac, whole, _⊙_, _⊞_}
 use Rattle.sums.specs.Figures.{nearest}
 use Rattle.sums.specs.Answer.{Contribution}
-use Rattle.vehicles.specs.Fields.{noCoefficients}
+use Rattle.vehicle_fields.specs.Fields.{noCoefficients}
 use Rattle.vehicles.specs.Rules.{emissionCount, contributionOf}
 use Rattle.stores.specs.Rules.{handlingContribution, standingContribution, aspirationContribution}
 use Rattle.slots.specs.declared.store.Store.{Store}

@@ -5,8 +5,8 @@ use mathlib.Core.List.{List, [], _∷_, _++_}
 use lib.Dec.{leb, ltb, eqb}
 use lib.ListN.{length}
 use Rattle.sums.specs.Choice.{if_then_else}
-use Rattle.vehicles.specs.Fields.{pollutantCount, temperaturesInRange}
-use Rattle.vehicles.specs.Rules.{notZero}
+use Rattle.vehicle_fields.specs.Fields.{pollutantCount, temperaturesInRange}
+use Rattle.vehicle_fields.specs.SootAndLead.{zeroWhereDue}
 use Rattle.slots.specs.Bytes.{slotSize, slotOf}
 use Rattle.slots.specs.Layout.{groupOf, groupGood, groupKind, coefficientsOf, coefficientsGood, coefficientsKind, coefficientsRead, storeKind, storeGood}
 use Rattle.slot_file.specs.Sources.{coefficientSlot, groupAt, headerAt, Chains}
@@ -99,7 +99,7 @@ afterSixth s g = question (eqb (coefficientSlot s g pollutantCount) 0) 10 (coeff
 unfoldable pub closingAsks : List ℕ → ℕ → List Question
 closingAsks s g =
     afterSixth s g  -- "Does the coefficient chain hold pollutants 1 to 6 in order, then end?"
-    ∷ question (not (notZero (groupAt s g .group) (groupAt s g .coefficients))) 11 g  -- "Is soot zero throughout for petrol, lead for diesel?"
+    ∷ question (zeroWhereDue (groupAt s g .group) (groupAt s g .coefficients)) 11 g  -- "Is soot zero throughout for petrol, lead for diesel?"
     ∷ []
 
 -- the last slot of a chain so far, which holds the next link; slot 0 holds the first

@@ -4,9 +4,9 @@ use Prim.Native.Nat.{ℕ, zero, suc}
 use mathlib.Core.List.{List, map, reverse}
 use lib.IntN.{ℤ}
 use Rattle.sums.specs.Choice.{listTo}
-use Rattle.vehicles.specs.Fields.{pollutantCount}
-use Rattle.vehicles.specs.declared.group.Group.{Group}
-use Rattle.vehicles.specs.declared.group.Coefficients.{Coefficients}
+use Rattle.vehicle_fields.specs.Fields.{pollutantCount}
+use Rattle.vehicle_fields.specs.declared.group.Group.{Group}
+use Rattle.vehicle_fields.specs.declared.group.Coefficients.{Coefficients}
 use Rattle.slots.specs.Bytes.{slotOf}
 use Rattle.slots.specs.Layout.{headerOf, groupRead, coefficientsRead, storeOf}
 use Rattle.slots.specs.declared.header.Header.{Header}

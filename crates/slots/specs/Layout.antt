@@ -6,15 +6,15 @@ use mathlib.Core.List.{List, [], _∷_}
 use lib.Dec.{leb, eqb}
 use lib.IntN.{ℤ}
 use Rattle.sums.specs.Choice.{if_then_else, allOf, listTo}
-use Rattle.vehicles.specs.Fields.{groupInRange, coefficientsInRange}
-use Rattle.vehicles.specs.declared.group.Distances.{Distances}
-use Rattle.vehicles.specs.declared.group.Group.{Group}
-use Rattle.vehicles.specs.declared.group.Coefficients.{Coefficients}
-use Rattle.stores.specs.Fields.{handlingInRange, standingInRange, aspirationInRange}
-use Rattle.stores.specs.declared.records.Bulk.{Bulk}
-use Rattle.stores.specs.declared.records.Handling as handling
-use Rattle.stores.specs.declared.records.Standing as standing
-use Rattle.stores.specs.declared.records.Aspiration as aspiration
+use Rattle.vehicle_fields.specs.Fields.{groupInRange, coefficientsInRange}
+use Rattle.vehicle_fields.specs.declared.group.Distances.{Distances}
+use Rattle.vehicle_fields.specs.declared.group.Group.{Group}
+use Rattle.vehicle_fields.specs.declared.group.Coefficients.{Coefficients}
+use Rattle.store_records.specs.Fields.{handlingInRange, standingInRange, aspirationInRange}
+use Rattle.store_records.specs.declared.records.Bulk.{Bulk}
+use Rattle.store_records.specs.declared.records.Handling as handling
+use Rattle.store_records.specs.declared.records.Standing as standing
+use Rattle.store_records.specs.declared.records.Aspiration as aspiration
 use Rattle.slots.specs.Bytes.{byteAt, u16At, u32At, i16At, zeroFrom, numberOf}
 use Rattle.slots.specs.declared.header.Header.{Header}
 use Rattle.slots.specs.declared.group.GroupRead.{GroupRead}

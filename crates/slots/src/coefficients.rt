@@ -5,9 +5,9 @@ ghost use Rattle.slots.specs.Bytes.{slotSize, slotOf};
 ghost use Rattle.slots.specs.Layout.{coefficientsOf, coefficientsGood, coefficientsRead};
 use super::numbers;
 use super::slot;
-use vehicles::Coefficients;
-use vehicles::PerKilometre;
-use vehicles::PerMinute;
+use vehicle_fields::Coefficients;
+use vehicle_fields::PerKilometre;
+use vehicle_fields::PerMinute;
 
 // 0, or the number of the first of questions 8 and 9 that is answered no; the pollutant; the fields; the next index.
 pub struct CoefficientsRead {
@@ -42,7 +42,7 @@ fn coefficients_good(t: &[u8], k: Coefficients) -> bool
     requires { ⌜ length (now t) ≡ slotSize ⌝ }
     ensures { λ r. ⌜ r ≡ coefficientsGood (now (t .entry)) k ⌝ }
 {
-    vehicles::coefficients_in_range(k) & numbers::zero_from(t, 32, 32)
+    vehicle_fields::coefficients_in_range(k) & numbers::zero_from(t, 32, 32)
 }
 
 // What slot n of a file holds as coefficients.

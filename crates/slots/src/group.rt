@@ -6,11 +6,11 @@ ghost use Rattle.slots.specs.Bytes.{slotSize, slotOf};
 ghost use Rattle.slots.specs.Layout.{daysOf, distancesAt, groupOf, groupGood, groupRead};
 use super::numbers;
 use super::slot;
-use vehicles::Distances;
-use vehicles::Group;
-use vehicles::Metres;
-use vehicles::Minutes;
-use vehicles::Neutraliser;
+use vehicle_fields::Distances;
+use vehicle_fields::Group;
+use vehicle_fields::Metres;
+use vehicle_fields::Minutes;
+use vehicle_fields::Neutraliser;
 
 // 0, or the number of the first of questions 8 and 9 that is answered no; the fields; the next index and the first coefficient slot.
 pub struct GroupRead {
@@ -77,7 +77,7 @@ fn group_good(t: &[u8], g: Group) -> bool
     requires { ⌜ length (now t) ≡ slotSize ⌝ }
     ensures { λ r. ⌜ r ≡ groupGood (now (t .entry)) g ⌝ }
 {
-    vehicles::group_in_range(g) & (t[5] <= 3) & numbers::zero_from(t, 36, 28)
+    vehicle_fields::group_in_range(g) & (t[5] <= 3) & numbers::zero_from(t, 36, 28)
 }
 
 // What slot n of a file holds as a group.

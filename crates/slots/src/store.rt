@@ -6,10 +6,10 @@ ghost use Rattle.slots.specs.Layout.{bulkOf, handlingOf, handlingGood, s
 ghost use Rattle.slots.specs.declared.store.Store.the-variants as variants;
 use super::numbers;
 use super::slot;
-use stores::Aspiration;
-use stores::Bulk;
-use stores::Handling;
-use stores::Standing;
+use store_records::Aspiration;
+use store_records::Bulk;
+use store_records::Handling;
+use store_records::Standing;
 
 pub enum Store {
     Handling(Handling),
@@ -54,7 +54,7 @@ fn handling_good(t: &[u8], h: Handling) -> bool
     requires { ⌜ length (now t) ≡ slotSize ⌝ }
     ensures { λ r. ⌜ r ≡ handlingGood (now (t .entry)) h ⌝ }
 {
-    stores::handling_in_range(h)
+    store_records::handling_in_range(h)
         & (t[7] == 0)
         & numbers::zero_from(t, 16, 4)
         & numbers::zero_from(t, 24, 40)
@@ -86,7 +86,7 @@ fn standing_good(t: &[u8], s: Standing) -> bool
     requires { ⌜ length (now t) ≡ slotSize ⌝ }
     ensures { λ r. ⌜ r ≡ standingGood (now (t .entry)) s ⌝ }
 {
-    stores::standing_in_range(s)
+    store_records::standing_in_range(s)
         & (t[7] == 0)
         & (t[15] == 0)
         & numbers::zero_from(t, 18, 2)
@@ -123,7 +123,9 @@ fn aspiration_good(t: &[u8], a: Aspiration) -> bool
     requires { ⌜ length (now t) ≡ slotSize ⌝ }
     ensures { λ r. ⌜ r ≡ aspirationGood (now (t .entry)) a ⌝ }
 {
-    stores::aspiration_in_range(a) & numbers::zero_from(t, 6, 2) & numbers::zero_from(t, 20, 44)
+    store_records::aspiration_in_range(a)
+        & numbers::zero_from(t, 6, 2)
+        & numbers::zero_from(t, 20, 44)
 }
 
 fn read_aspiration(t: &[u8]) -> StoreRead

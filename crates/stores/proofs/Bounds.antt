@@ -8,13 +8,13 @@ use mathlib.Core.Bool.{true}
 use Rattle.sums.proofs.Products.{_⊗_}
 use Rattle.sums.specs.Exactness.{Bounded}
 use Rattle.sums.proofs.Sources.{bounded}
-use Rattle.stores.specs.Fields.{handlingInRange, standingInRange, aspirationInRange}
+use Rattle.store_records.specs.Fields.{handlingInRange, standingInRange, aspirationInRange}
+use Rattle.store_records.specs.declared.records.Bulk.{Bulk}
+use Rattle.store_records.specs.declared.records.Handling.{Handling}
+use Rattle.store_records.specs.declared.records.Standing.{Standing}
+use Rattle.store_records.specs.declared.records.Aspiration.{Aspiration}
 use Rattle.stores.specs.Rules.{handlingPeak, standingPeak, bulkTonnes, aspirationPeak, aspirationTonnes}
 use Rattle.stores.specs.Parts.{exposureParts, handlingParts, standingParts, aspirationParts}
-use Rattle.stores.specs.declared.records.Bulk.{Bulk}
-use Rattle.stores.specs.declared.records.Handling.{Handling}
-use Rattle.stores.specs.declared.records.Standing.{Standing}
-use Rattle.stores.specs.declared.records.Aspiration.{Aspiration}
 use Rattle.stores.proofs.TableTests.{k1-scaled, k2-scaled, q-scaled, k3-scaled, k4-scaled, k5-scaled, k6-scaled, k7-scaled, drop-scaled}
 use Rattle.stores.proofs.Ranges.{handling, standing, aspiration}
 use Rattle.stores.proofs.Paper.{handling-counted, standing-counted, aspiration-counted}

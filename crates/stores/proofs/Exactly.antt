@@ -7,11 +7,11 @@ use Rattle.sums.specs.Choice.{if_then_else}
 use Rattle.sums.specs.Answer.{emitted}
 use Rattle.sums.specs.Exactness.{Exactly}
 use Rattle.sums.proofs.Sources.{exactly}
-use Rattle.stores.specs.Fields.{handlingInRange, standingInRange, aspirationInRange}
+use Rattle.store_records.specs.Fields.{handlingInRange, standingInRange, aspirationInRange}
+use Rattle.store_records.specs.declared.records.Handling.{Handling}
+use Rattle.store_records.specs.declared.records.Standing.{Standing}
+use Rattle.store_records.specs.declared.records.Aspiration.{Aspiration}
 use Rattle.stores.specs.Rules.{handlingPeak, standingPeak, bulkTonnes, aspirationPeak, aspirationTonnes, handlingContribution, standingContribution, aspirationContribution, handlingAnswer, standingAnswer, aspirationAnswer}
-use Rattle.stores.specs.declared.records.Handling.{Handling}
-use Rattle.stores.specs.declared.records.Standing.{Standing}
-use Rattle.stores.specs.declared.records.Aspiration.{Aspiration}
 use Rattle.stores.proofs.Paper.{handling-counted, standing-counted, aspiration-counted}
 use Rattle.stores.proofs.Bounds.{handling-bounded, standing-bounded, aspiration-bounded}
 

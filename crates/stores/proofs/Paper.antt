@@ -8,11 +8,11 @@ use Rattle.sums.specs.Figures.{annualOf, peakOf}
 use Rattle.sums.proofs.Fractions.{≈-refl, ≈-⊙, ≈-per, ≈-over, parts}
 use Rattle.sums.specs.Exactness.{Counted}
 use Rattle.sums.specs.Answer.{contribution}
+use Rattle.store_records.specs.declared.records.Handling.{Handling}
+use Rattle.store_records.specs.declared.records.Standing.{Standing}
+use Rattle.store_records.specs.declared.records.Aspiration.{Aspiration}
 use Rattle.stores.specs.Rules.{handlingPeak, standingPeak, bulkTonnes, aspirationPeak, aspirationTonnes, codeOf, answer}
 use Rattle.stores.specs.Parts.{exposureParts, handlingParts, standingParts, aspirationParts, bulkUnits, bulkYearUnits, aspirationUnits, aspirationHourUnits, answerOf}
-use Rattle.stores.specs.declared.records.Handling.{Handling}
-use Rattle.stores.specs.declared.records.Standing.{Standing}
-use Rattle.stores.specs.declared.records.Aspiration.{Aspiration}
 use Rattle.stores.proofs.TableTests.{k1-scaled, k2-scaled, q-scaled, k3-scaled, k4-scaled, k5-scaled, k6-same, k7-scaled, drop-scaled}
 
 handling-parts : (h : Handling) → handlingPeak h ≈ (handlingParts h over 6000000000000)

@@ -4,11 +4,11 @@ use mathlib.Core.Path.{_≡_}
 use mathlib.Core.Bool.{true}
 use borrow.Author.Tests.{leb-true}
 use Rattle.sums.proofs.Choices.{nth}
-use Rattle.stores.specs.Fields.{bulkTests, bulkInRange, handlingTests, handlingInRange, standingTests, standingInRange, aspirationTests, aspirationInRange}
-use Rattle.stores.specs.declared.records.Bulk.{Bulk}
-use Rattle.stores.specs.declared.records.Handling.{Handling}
-use Rattle.stores.specs.declared.records.Standing.{Standing}
-use Rattle.stores.specs.declared.records.Aspiration.{Aspiration}
+use Rattle.store_records.specs.Fields.{bulkTests, bulkInRange, handlingTests, handlingInRange, standingTests, standingInRange, aspirationTests, aspirationInRange}
+use Rattle.store_records.specs.declared.records.Bulk.{Bulk}
+use Rattle.store_records.specs.declared.records.Handling.{Handling}
+use Rattle.store_records.specs.declared.records.Standing.{Standing}
+use Rattle.store_records.specs.declared.records.Aspiration.{Aspiration}
 
 pub record RangedBulk (b : Bulk) : Type 0 where
   pub dust : (1 ≤ b .dust) × (b .dust ≤ 3)

@@ -5,11 +5,11 @@ use Rattle.sums.specs.Figures.{tonneParts, gramParts}
 use Rattle.sums.specs.Answer.{accepted}
 use Rattle.sums.specs.declared.annual.AnnualSum.{AnnualSum}
 use Rattle.sums.specs.declared.peak.PeakSum.{PeakSum}
+use Rattle.store_records.specs.declared.records.Bulk.{Bulk}
+use Rattle.store_records.specs.declared.records.Handling.{Handling}
+use Rattle.store_records.specs.declared.records.Standing.{Standing}
+use Rattle.store_records.specs.declared.records.Aspiration.{Aspiration}
 use Rattle.stores.specs.Rules.{numbered, k1Table, k2Table, qTable, k3Of, k4Table, k5Of, k6Of, k7Of, dropTable, codeOf}
-use Rattle.stores.specs.declared.records.Bulk.{Bulk}
-use Rattle.stores.specs.declared.records.Handling.{Handling}
-use Rattle.stores.specs.declared.records.Standing.{Standing}
-use Rattle.stores.specs.declared.records.Aspiration.{Aspiration}
 use Rattle.stores.specs.declared.rules.StoreAnswer.{StoreAnswer}
 
 -- K3 K4 K5 K7, in ten-millionths

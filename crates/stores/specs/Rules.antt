@@ -7,10 +7,10 @@ use Rattle.sums.specs.Choice.{if_then_else}
 use Rattle.sums.specs.Fraction.{Frac, _over_, whole, _⊙_, _per_}
 use Rattle.sums.specs.Table.{Line, to, upTo}
 use Rattle.sums.specs.Answer.{Contribution, contribution, accepted, refusedBy, emitted, noEmission}
-use Rattle.stores.specs.Fields.{handlingInRange, standingInRange, aspirationInRange}
-use Rattle.stores.specs.declared.records.Handling.{Handling}
-use Rattle.stores.specs.declared.records.Standing.{Standing}
-use Rattle.stores.specs.declared.records.Aspiration.{Aspiration}
+use Rattle.store_records.specs.Fields.{handlingInRange, standingInRange, aspirationInRange}
+use Rattle.store_records.specs.declared.records.Handling.{Handling}
+use Rattle.store_records.specs.declared.records.Standing.{Standing}
+use Rattle.store_records.specs.declared.records.Aspiration.{Aspiration}
 use Rattle.stores.specs.declared.rules.StoreAnswer.{StoreAnswer}
 
 -- "Materials 1 to 9 (K1, K2, Q)", table 2 of 000

@@ -3,15 +3,14 @@ ghost use mathlib.Core.Path.{_≡_};
 ghost use mathlib.Core.Bool.{true};
 ghost use Prim.Native.Nat.{_*_, _≤_};
 ghost use Rattle.sums.specs.Figures.{annualOf, peakOf};
-ghost use Rattle.stores.specs.Fields.{bulkInRange, handlingInRange, standingInRange, aspirationInRange};
+ghost use Rattle.store_records.specs.Fields.{bulkInRange, handlingInRange, standingInRange, aspirationInRange};
 ghost use Rattle.stores.specs.Rules.{outOfRange, handlingAnswer, standingAnswer, aspirationAnswer};
 ghost use Rattle.stores.specs.Parts.{exposureParts, handlingParts, standingParts, aspirationParts, bulkUnits, bulkYearUnits, aspirationUnits, aspirationHourUnits, answerOf};
-use super::records;
-use super::records::Aspiration;
-use super::records::Bulk;
-use super::records::Handling;
-use super::records::Standing;
 use super::tables;
+use store_records::Aspiration;
+use store_records::Bulk;
+use store_records::Handling;
+use store_records::Standing;
 use sums::AnnualSum;
 use sums::Emission;
 use sums::PeakSum;
@@ -60,7 +59,7 @@ fn aspiration_parts(a: Aspiration) -> u64
     (a.concentration as u64) * (a.flow as u64) * ((10_000 - a.capture) as u64)
 }
 
-fn answer(dust: u8, annual: AnnualSum, peak: PeakSum) -> StoreAnswer
+fn store_answer(dust: u8, annual: AnnualSum, peak: PeakSum) -> StoreAnswer
     requires { ⌜ (1 ≤ dust) × (dust ≤ 3) ⌝ }
     ensures { λ r. ⌜ r ≡ answerOf dust annual peak ⌝ }
 {
@@ -93,7 +92,7 @@ fn bulk_answer(dust: u8, parts: u64) -> StoreAnswer
     requires { ⌜ (1 ≤ dust) × (dust ≤ 3) ⌝ }
     ensures { λ r. ⌜ r ≡ answerOf dust (annualOf (parts * bulkYearUnits)) (peakOf (parts * bulkUnits)) ⌝ }
 {
-    answer(
+    store_answer(
         dust,
         AnnualSum::of(parts).times(BULK_YEAR_UNITS),
         PeakSum::of(parts).times(BULK_UNITS),
@@ -105,7 +104,7 @@ fn aspiration_answer(dust: u8, parts: u64, hours: u16) -> StoreAnswer
     requires { ⌜ (1 ≤ dust) × (dust ≤ 3) ⌝ }
     ensures { λ r. ⌜ r ≡ answerOf dust (annualOf (parts * hours * aspirationHourUnits)) (peakOf (parts * aspirationUnits)) ⌝ }
 {
-    answer(
+    store_answer(
         dust,
         AnnualSum::of(parts)
             .times(hours as u32)
@@ -126,7 +125,7 @@ fn out_of_range() -> StoreAnswer
 pub fn handling_emission(h: Handling) -> StoreAnswer
     ensures { λ r. ⌜ r ≡ handlingAnswer h ⌝ }
 {
-    if records::handling_in_range(h) {
+    if store_records::handling_in_range(h) {
         let b = h.bulk;
         bulk_answer(b.dust, handling_parts(h))
     } else {
@@ -137,7 +136,7 @@ pub fn handling_emission(h: Handling) -> StoreAnswer
 pub fn standing_emission(s: Standing) -> StoreAnswer
     ensures { λ r. ⌜ r ≡ standingAnswer s ⌝ }
 {
-    if records::standing_in_range(s) {
+    if store_records::standing_in_range(s) {
         let b = s.bulk;
         bulk_answer(b.dust, standing_parts(s))
     } else {
@@ -148,7 +147,7 @@ pub fn standing_emission(s: Standing) -> StoreAnswer
 pub fn aspiration_emission(a: Aspiration) -> StoreAnswer
     ensures { λ r. ⌜ r ≡ aspirationAnswer a ⌝ }
 {
-    if records::aspiration_in_range(a) {
+    if store_records::aspiration_in_range(a) {
         aspiration_answer(a.dust, aspiration_parts(a), a.hours)
     } else {
         out_of_range()

@@ -6,15 +6,15 @@ use lib.Dec.{leb, eqb}
 use lib.IntN.{ℤ}
 use lib.ListN.{getD, length}
 use Rattle.sums.specs.Choice.{if_then_else, allOf, listTo}
-use Rattle.stores.specs.declared.records.Bulk.{Bulk}
-use Rattle.stores.specs.declared.records.Handling.{Handling}
-use Rattle.stores.specs.declared.records.Standing.{Standing}
-use Rattle.stores.specs.declared.records.Aspiration.{Aspiration}
-use Rattle.vehicles.specs.Fields.{pollutantCount}
-use Rattle.vehicles.specs.Rules.{refused}
-use Rattle.vehicles.specs.declared.group.Distances.{Distances}
-use Rattle.vehicles.specs.declared.group.Group.{Group}
-use Rattle.vehicles.specs.declared.group.Coefficients.{Coefficients}
+use Rattle.store_records.specs.declared.records.Bulk.{Bulk}
+use Rattle.store_records.specs.declared.records.Handling.{Handling}
+use Rattle.store_records.specs.declared.records.Standing.{Standing}
+use Rattle.store_records.specs.declared.records.Aspiration.{Aspiration}
+use Rattle.vehicle_fields.specs.Fields.{pollutantCount}
+use Rattle.vehicle_fields.specs.declared.group.Distances.{Distances}
+use Rattle.vehicle_fields.specs.declared.group.Group.{Group}
+use Rattle.vehicle_fields.specs.declared.group.Coefficients.{Coefficients}
+use Rattle.vehicles.specs.Rules.{groupRefusal}
 use Rattle.vehicles.specs.declared.rule.GroupAnswer.{GroupAnswer}
 
 abbrev pub bulkOf : ℕ → ℕ → ℕ → ℕ → ℕ → ℕ → ℕ → ℕ → Bulk
@@ -97,4 +97,4 @@ groupOf category fuel flags vehicles leaving share running warming idle distance
 
 -- "the others zero": flags of which another bit is set are out of range
 unfoldable pub flagged : ℕ → GroupAnswer → GroupAnswer
-flagged flags a = if_then_else (leb flags 3) a (refused 9)
+flagged flags a = if_then_else (leb flags 3) a (groupRefusal 9)

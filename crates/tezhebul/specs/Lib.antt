@@ -1,3 +1,3 @@
--- How the C interface hands over what the definitions of slot_file, stores and vehicles give.
-pub mod Numbers
+-- How the C interface takes what it is asked with, and what it leaves in the caller's memory of what the definitions of slot_file, stores and vehicles give.
 pub mod Fields
+pub mod Memory

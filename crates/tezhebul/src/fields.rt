@@ -2,18 +2,18 @@
 ghost use mathlib.Core.Path.{_≡_};
 ghost use Prim.Native.Nat.{_+_, _*_, _≤_};
 ghost use lib.ListN.{length};
-ghost use Rattle.vehicles.specs.Fields.{pollutantCount};
+ghost use Rattle.vehicle_fields.specs.Fields.{pollutantCount};
 ghost use Rattle.tezhebul.specs.Fields.{bulkOf, lengths, distancesAt, groupOf, coefficientsAt, rowSize, rowsOf};
-use stores::Bulk;
-use vehicles::Coefficients;
-use vehicles::Distances;
-use vehicles::Group;
-use vehicles::Metres;
-use vehicles::Minutes;
-use vehicles::Neutraliser;
-use vehicles::POLLUTANTS;
-use vehicles::PerKilometre;
-use vehicles::PerMinute;
+use store_records::Bulk;
+use vehicle_fields::Coefficients;
+use vehicle_fields::Distances;
+use vehicle_fields::Group;
+use vehicle_fields::Metres;
+use vehicle_fields::Minutes;
+use vehicle_fields::Neutraliser;
+use vehicle_fields::POLLUTANTS;
+use vehicle_fields::PerKilometre;
+use vehicle_fields::PerMinute;
 
 pub(crate) fn bulk_of(
     dust: u8,

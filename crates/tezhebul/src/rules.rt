@@ -1,33 +1,20 @@
 // The source rules, asked with values and without a slot file.
 ghost use mathlib.Core.Path.{_≡_};
-ghost use mathlib.Core.Bool.{_&&_};
-ghost use lib.Dec.{leb};
-ghost use lib.ListN.{length};
 ghost use Rattle.stores.specs.Rules.{handlingAnswer, standingAnswer, aspirationAnswer};
-ghost use Rattle.sums.specs.Choice.{if_then_else};
 ghost use Rattle.vehicles.specs.Rules.{groupAnswer};
-ghost use Rattle.tezhebul.specs.Numbers.{storeNumbers, storeSize, groupNumbers, groupSize, into};
-ghost use Rattle.tezhebul.specs.Fields.{handlingOf, standingOf, aspirationOf, lengths, groupOf, rowsOf, flagged};
+ghost use Rattle.answer_numbers.specs.Numbers.{storeNumbers, storeSize, Given};
+ghost use Rattle.tezhebul.specs.Fields.{handlingOf, standingOf, aspirationOf, groupOf, flagged};
+ghost use Rattle.tezhebul.specs.Memory.{GroupGiven};
 use super::fields;
-use super::numbers;
-use stores::Aspiration;
-use stores::Handling;
-use stores::Standing;
-use stores::StoreAnswer;
-use vehicles::Coefficients;
-use vehicles::Group;
+use store_records::Aspiration;
+use store_records::Handling;
+use store_records::Standing;
+use vehicle_fields::Coefficients;
+use vehicle_fields::Group;
+use vehicle_fields::POLLUTANTS;
 use vehicles::GroupAnswer;
-use vehicles::POLLUTANTS;
 
-// The numbers of a store rule's answer at the start of `out`; false, and nothing written, where it has room for fewer.
-fn give_store(a: StoreAnswer, out: &mut [u64]) -> bool
-    ensures { λ r. ⌜ (r ≡ leb storeSize (length (now (out .entry)))) × (now (out .exit) ≡ into (storeNumbers a) (now (out .entry))) ⌝ }
-{
-    let n = numbers::store_numbers(a);
-    numbers::give(&n, out)
-}
-
-// The numbers of what a handling record gives.
+// The numbers of what a handling record gives at the start of `out`; false, and nothing written, where it has room for fewer.
 #[no_mangle]
 pub extern "C" fn tezhebul_handling(
     dust: u8,
@@ -41,7 +28,7 @@ pub extern "C" fn tezhebul_handling(
     drop: u8,
     out: &mut [u64],
 ) -> bool
-    ensures { λ r. ⌜ (r ≡ leb storeSize (length (now (out .entry)))) × (now (out .exit) ≡ into (storeNumbers (handlingAnswer (handlingOf dust store material wind moisture grain openness amount drop))) (now (out .entry))) ⌝ }
+    ensures { λ r. ⌜ Given storeSize (storeNumbers (handlingAnswer (handlingOf dust store material wind moisture grain openness amount drop))) (now (out .entry)) r (now (out .exit)) ⌝ }
 {
     let bulk = fields::bulk_of(
         dust,
@@ -53,10 +40,10 @@ pub extern "C" fn tezhebul_handling(
         openness,
         amount,
     );
-    give_store(stores::handling_emission(Handling { bulk, drop }), out)
+    answer_numbers::give_store(stores::handling_emission(Handling { bulk, drop }), out)
 }
 
-// The numbers of what a standing record gives.
+// The numbers of what a standing record gives, likewise.
 #[no_mangle]
 pub extern "C" fn tezhebul_standing(
     dust: u8,
@@ -70,7 +57,7 @@ pub extern "C" fn tezhebul_standing(
     k6: u16,
     out: &mut [u64],
 ) -> bool
-    ensures { λ r. ⌜ (r ≡ leb storeSize (length (now (out .entry)))) × (now (out .exit) ≡ into (storeNumbers (standingAnswer (standingOf dust store material wind moisture grain openness amount k6))) (now (out .entry))) ⌝ }
+    ensures { λ r. ⌜ Given storeSize (storeNumbers (standingAnswer (standingOf dust store material wind moisture grain openness amount k6))) (now (out .entry)) r (now (out .exit)) ⌝ }
 {
     let bulk = fields::bulk_of(
         dust,
@@ -82,10 +69,10 @@ pub extern "C" fn tezhebul_standing(
         openness,
         amount,
     );
-    give_store(stores::standing_emission(Standing { bulk, k6 }), out)
+    answer_numbers::give_store(stores::standing_emission(Standing { bulk, k6 }), out)
 }
 
-// The numbers of what an aspiration record gives.
+// The numbers of what an aspiration record gives, likewise.
 #[no_mangle]
 pub extern "C" fn tezhebul_aspiration(
     dust: u8,
@@ -96,9 +83,9 @@ pub extern "C" fn tezhebul_aspiration(
     hours: u16,
     out: &mut [u64],
 ) -> bool
-    ensures { λ r. ⌜ (r ≡ leb storeSize (length (now (out .entry)))) × (now (out .exit) ≡ into (storeNumbers (aspirationAnswer (aspirationOf dust store concentration flow capture hours))) (now (out .entry))) ⌝ }
+    ensures { λ r. ⌜ Given storeSize (storeNumbers (aspirationAnswer (aspirationOf dust store concentration flow capture hours))) (now (out .entry)) r (now (out .exit)) ⌝ }
 {
-    give_store(
+    answer_numbers::give_store(
         stores::aspiration_emission(Aspiration {
             dust,
             store,
@@ -109,16 +96,6 @@ pub extern "C" fn tezhebul_aspiration(
         }),
         out,
     )
-}
-
-// The numbers of a group's answer at the start of `out`, likewise.
-fn give_group(a: GroupAnswer, out: &mut [u64]) -> bool
-    ensures { λ r. ⌜ (r ≡ leb groupSize (length (now (out .entry)))) × (now (out .exit) ≡ into (groupNumbers a) (now (out .entry))) ⌝ }
-{
-    let v = a.verdict;
-    let es = a.emissions;
-    let n = numbers::group_numbers(v, es);
-    numbers::give(&n, out)
 }
 
 fn group_answer(flags: u8, g: Group, ts: [i16; 12], ks: [Coefficients; POLLUTANTS]) -> GroupAnswer
@@ -149,7 +126,7 @@ pub extern "C" fn tezhebul_group(
     coefficients: &[u32],
     out: &mut [u64],
 ) -> bool
-    ensures { λ r. ⌜ (r ≡ (lengths (now (distances .entry)) (now (days .entry)) (now (temperatures .entry)) (now (coefficients .entry)) && leb groupSize (length (now (out .entry))))) × (now (out .exit) ≡ if_then_else (lengths (now (distances .entry)) (now (days .entry)) (now (temperatures .entry)) (now (coefficients .entry))) (into (groupNumbers (flagged flags (groupAnswer (groupOf category fuel flags vehicles leaving share running warming idle (now (distances .entry)) (now (days .entry))) (now (temperatures .entry)) (rowsOf (now (coefficients .entry)))))) (now (out .entry))) (now (out .entry))) ⌝ }
+    ensures { λ r. ⌜ GroupGiven flags (groupOf category fuel flags vehicles leaving share running warming idle) (now (distances .entry)) (now (days .entry)) (now (temperatures .entry)) (now (coefficients .entry)) (now (out .entry)) r (now (out .exit)) ⌝ }
 {
     if fields::right_lengths(distances, days, temperatures, coefficients) {
         let g = fields::group_of(
@@ -167,7 +144,7 @@ pub extern "C" fn tezhebul_group(
         );
         let ts = fields::temperatures_of(temperatures);
         let ks = fields::rows_of(coefficients);
-        give_group(group_answer(flags, g, ts, ks), out)
+        answer_numbers::give_group(group_answer(flags, g, ts, ks), out)
     } else {
         false
     }

@@ -4,7 +4,7 @@ use Prim.Native.Nat.{ℕ, _+_, _*_, _<_, _≤_}
 use native.Mathlib.Nat.{le-refl, add-le-add}
 use native.Mathlib.Omega.{arith}
 use mathlib.Core.Path.{_≡_}
-use mathlib.Core.Bool.{true, false}
+use mathlib.Core.Bool.{true}
 use mathlib.Core.List.{List}
 use lib.Dec.{lit<}
 use lib.IntN.{ℤ}
@@ -16,16 +16,21 @@ use Rattle.sums.proofs.Choices.{listTo-at}
 use Rattle.sums.proofs.Products.{_⊗_}
 use Rattle.sums.specs.Exactness.{Bounded, Exactly}
 use Rattle.sums.proofs.Sources.{bounded, exactly}
-use Rattle.vehicles.specs.Fields.{groupInRange, coefficientsInRange, noCoefficients}
-use Rattle.vehicles.specs.Rules.{controlOf, annualTonnes, peakGrams, lowestOf, contributionOf, emissionOf, emissionCount, emissionsOf, inRange, notZero, groupAnswer}
-use Rattle.vehicles.specs.Parts.{conditionsAt, activityOf, ConditionsInRange, ActivityInRange, NeutraliserInRange, massParts, outParts, yearParts}
-use Rattle.vehicles.specs.declared.group.Group.{Group}
-use Rattle.vehicles.specs.declared.group.Neutraliser.{Neutraliser}
-use Rattle.vehicles.specs.declared.group.Coefficients.{Coefficients}
-use Rattle.vehicles.specs.declared.warmup.Conditions.{Conditions}
+use Rattle.vehicle_fields.specs.Fields.{groupInRange, coefficientsInRange, noCoefficients, inRange}
+use Rattle.vehicle_fields.specs.SootAndLead.{zeroWhereDue}
+use Rattle.vehicle_fields.specs.declared.group.Group.{Group}
+use Rattle.vehicle_fields.specs.declared.group.Neutraliser.{Neutraliser}
+use Rattle.vehicle_fields.specs.declared.group.Coefficients.{Coefficients}
+use Rattle.warmups.specs.Temperatures.{lowestOf}
+use Rattle.warmups.specs.Warmup.{conditionsAt}
+use Rattle.warmups.specs.Parts.{ConditionsInRange}
+use Rattle.warmups.specs.declared.warmup.Conditions.{Conditions}
+use Rattle.warmups.proofs.Scales.{conditions-in-range}
+use Rattle.vehicles.specs.Rules.{controlOf, annualTonnes, peakGrams, contributionOf, emissionOf, emissionCount, emissionsOf, groupAnswer}
+use Rattle.vehicles.specs.Parts.{activityOf, ActivityInRange, NeutraliserInRange, massParts, outParts, yearParts}
 use Rattle.vehicles.specs.declared.activity.Activity.{Activity}
 use Rattle.vehicles.proofs.Ranges.{ranged, twice, warmup, run, idle, of-six, all-in-range}
-use Rattle.vehicles.proofs.Scales.{control, conditions-in-range}
+use Rattle.vehicles.proofs.Scales.{control}
 use Rattle.vehicles.proofs.Periods.{warmup-parts, run-parts, idle-parts, activity-in-range}
 use Rattle.vehicles.proofs.Paper.{counted}
 
@@ -62,7 +67,7 @@ module _ (g : Group) (ts : List ℤ) (k : Coefficients) (hg : groupInRange g ≡
   emission-exactly = exactly (contributionOf g ts k p) (lit< tt) (counted g ts k p) group-bounded
 
 -- each emission of a group that is not refused
-pub group-exactly : (g : Group) (ts : List ℤ) (ks : List Coefficients) → inRange g ts ks ≡ true → notZero g ks ≡ false → (p : ℕ) → p < emissionCount →
+pub group-exactly : (g : Group) (ts : List ℤ) (ks : List Coefficients) → inRange g ts ks ≡ true → zeroWhereDue g ks ≡ true → (p : ℕ) → p < emissionCount →
     Exactly (getD (groupAnswer g ts ks .emissions) p noEmission) (annualTonnes g ts (getD ks p noCoefficients) (controlOf g p))
     (peakGrams g (getD ks p noCoefficients) (controlOf g p) (lowestOf ts))
 unfolding groupAnswer emissionsOf if_then_else

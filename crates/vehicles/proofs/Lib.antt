@@ -1,5 +1,4 @@
 -- The laws that belong to no one function.
-pub mod Edges
 pub mod Ranges
 pub mod Scales
 pub mod Periods

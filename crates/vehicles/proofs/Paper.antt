@@ -14,15 +14,18 @@ use Rattle.sums.specs.Figures.{tonneParts, gramParts}
 use Rattle.sums.proofs.Choices.{sumTo-times}
 use Rattle.sums.proofs.Fractions.{≈-refl, ≈-⊙, ≈-⊞, ≈-per, ≈-over, totalTo-parts, parts}
 use Rattle.sums.specs.Exactness.{Counted}
-use Rattle.vehicles.specs.Fields.{noMinute, noKilometre}
-use Rattle.vehicles.specs.Rules.{periodAt, minutesAt, runAndIdle, outGrams, inGrams, monthGrams, annualTonnes, peakGrams, controlOf, lowestOf, emissionOf}
-use Rattle.vehicles.specs.Parts.{conditionsAt, distanceSum, monthConditions, monthPeriod, monthWarmup, monthRun, monthIdle, activityOf, runAndIdleParts, massParts, outParts, yearParts, yearUnits, peakUnits, emissionParts}
-use Rattle.vehicles.specs.declared.group.Distances.{Distances}
-use Rattle.vehicles.specs.declared.group.Neutraliser.{Neutraliser}
-use Rattle.vehicles.specs.declared.group.Group.{Group}
-use Rattle.vehicles.specs.declared.group.Coefficients.{Coefficients}
-use Rattle.vehicles.specs.declared.warmup.Conditions.{Conditions}
-use Rattle.vehicles.proofs.Scales.{minutes, control}
+use Rattle.vehicle_fields.specs.Fields.{noMinute, noKilometre}
+use Rattle.vehicle_fields.specs.declared.group.Distances.{Distances}
+use Rattle.vehicle_fields.specs.declared.group.Neutraliser.{Neutraliser}
+use Rattle.vehicle_fields.specs.declared.group.Group.{Group}
+use Rattle.vehicle_fields.specs.declared.group.Coefficients.{Coefficients}
+use Rattle.warmups.specs.Temperatures.{lowestOf}
+use Rattle.warmups.specs.Warmup.{periodAt, minutesAt, conditionsAt}
+use Rattle.warmups.specs.declared.warmup.Conditions.{Conditions}
+use Rattle.warmups.proofs.Scales.{minutes}
+use Rattle.vehicles.specs.Rules.{runAndIdle, outGrams, inGrams, monthGrams, annualTonnes, peakGrams, controlOf, emissionOf}
+use Rattle.vehicles.specs.Parts.{distanceSum, monthConditions, monthPeriod, monthWarmup, monthRun, monthIdle, activityOf, runAndIdleParts, massParts, outParts, yearParts, yearUnits, peakUnits, emissionParts}
+use Rattle.vehicles.proofs.Scales.{control}
 use Rattle.vehicles.proofs.Periods.{by-months}
 
 -- a trip in, and a day's trips over the days of a month

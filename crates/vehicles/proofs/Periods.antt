@@ -14,13 +14,13 @@ use lib.Seq.{getD-set-same, getD-set-other}
 use Rattle.sums.specs.Choice.{if_then_else, sumTo, listTo}
 use Rattle.sums.proofs.Choices.{both, cases, sumTo-step, sumTo-bound}
 use Rattle.sums.proofs.Products.{_⊗_}
-use Rattle.vehicles.specs.Fields.{groupInRange, coefficientsInRange}
+use Rattle.vehicle_fields.specs.Fields.{groupInRange, coefficientsInRange}
+use Rattle.vehicle_fields.specs.declared.group.Group.{Group}
+use Rattle.vehicle_fields.specs.declared.group.Coefficients.{Coefficients}
+use Rattle.warmups.proofs.Scales.{conditions-in-range}
 use Rattle.vehicles.specs.Parts.{inPeriod, dayRun, monthPeriod, monthWarmup, monthRun, monthIdle, activityOf, warmupParts, runParts, ActivityInRange}
-use Rattle.vehicles.specs.declared.group.Group.{Group}
-use Rattle.vehicles.specs.declared.group.Coefficients.{Coefficients}
 use Rattle.vehicles.specs.declared.activity.Activity.{Activity}
 use Rattle.vehicles.proofs.Ranges.{ranged, twice, days, three, warmup, run, idle}
-use Rattle.vehicles.proofs.Scales.{conditions-in-range}
 
 module _ (g : Group) (ts : List ℤ) (f : ℕ → ℕ) where
   -- the totals of the periods in a list, with one month more, whose period is q

@@ -10,12 +10,11 @@ use lib.Dec.{leb}
 use lib.IntN.{ℤ}
 use lib.ListN.{getD}
 use Rattle.sums.proofs.Choices.{left, right, nth, each, allTo-at}
-use Rattle.vehicles.specs.Fields.{pollutantCount, distancesInRange, daysInRange, monthLengths, temperaturesInRange, groupInRange, groupTests, coefficientsInRange, seven, noMinute, noKilometre, allInRange, noCoefficients}
-use Rattle.vehicles.specs.Rules.{inRange}
+use Rattle.vehicle_fields.specs.Fields.{pollutantCount, distancesInRange, daysInRange, monthLengths, temperaturesInRange, groupInRange, groupTests, coefficientsInRange, seven, noMinute, noKilometre, allInRange, noCoefficients, inRange}
+use Rattle.vehicle_fields.specs.declared.group.Distances.{Distances}
+use Rattle.vehicle_fields.specs.declared.group.Group.{Group}
+use Rattle.vehicle_fields.specs.declared.group.Coefficients.{Coefficients}
 use Rattle.vehicles.specs.Parts.{distanceSum, NeutraliserInRange}
-use Rattle.vehicles.specs.declared.group.Distances.{Distances}
-use Rattle.vehicles.specs.declared.group.Group.{Group}
-use Rattle.vehicles.specs.declared.group.Coefficients.{Coefficients}
 
 pub record RangedDistances (d : Distances) : Type 0 where
   pub nearest : d .nearest .0 ≤ 20000

@@ -1,5 +1,5 @@
 -- What inner functions compute: the rule's fractions as whole numbers of parts. The proofs show that they are the fractions of Rules.
-use Prim.Native.Nat.{ℕ, _+_, _*_, _/_, _<_, _≤_}
+use Prim.Native.Nat.{ℕ, _+_, _*_, _/_, _≤_}
 use mathlib.Core.List.{List}
 use lib.Dec.{eqb}
 use lib.IntN.{ℤ, pos}
@@ -8,27 +8,21 @@ use Rattle.sums.specs.Choice.{if_then_else, sumTo, listTo}
 use Rattle.sums.specs.Fraction.{partsOf}
 use Rattle.sums.specs.Figures.{tonneParts, gramParts, annualOf, peakOf}
 use Rattle.sums.specs.declared.answer.Emission.{Emission}
-use Rattle.vehicles.specs.Fields.{noMinute, noKilometre}
-use Rattle.vehicles.specs.Rules.{minutesAt, periodAt, controlOf, codeOf}
-use Rattle.vehicles.specs.declared.units.Minutes.{Minutes}
-use Rattle.vehicles.specs.declared.units.Metres.{Metres}
-use Rattle.vehicles.specs.declared.group.Distances.{Distances}
-use Rattle.vehicles.specs.declared.group.Neutraliser.{Neutraliser}
-use Rattle.vehicles.specs.declared.group.Group.{Group}
-use Rattle.vehicles.specs.declared.group.Coefficients.{Coefficients}
-use Rattle.vehicles.specs.declared.warmup.Conditions.{Conditions}
+use Rattle.vehicle_fields.specs.Fields.{noMinute, noKilometre}
+use Rattle.vehicle_fields.specs.declared.units.Minutes.{Minutes}
+use Rattle.vehicle_fields.specs.declared.units.Metres.{Metres}
+use Rattle.vehicle_fields.specs.declared.group.Distances.{Distances}
+use Rattle.vehicle_fields.specs.declared.group.Neutraliser.{Neutraliser}
+use Rattle.vehicle_fields.specs.declared.group.Group.{Group}
+use Rattle.vehicle_fields.specs.declared.group.Coefficients.{Coefficients}
+use Rattle.warmups.specs.Warmup.{tenths, conditionsAt}
+use Rattle.warmups.specs.declared.warmup.Conditions.{Conditions}
+use Rattle.vehicles.specs.Rules.{controlOf, pollutantCode}
 use Rattle.vehicles.specs.declared.activity.Activity.{Activity}
 
--- so many tenths of a minute, and so many metres
-abbrev pub tenths : ℕ → Minutes
-tenths n = record { 0 = n }
-
+-- so many metres
 abbrev pub metres : ℕ → Metres
 metres n = record { 0 = n }
-
--- what a temperature decides: the period whose coefficients count, and warm-up
-unfoldable pub conditionsAt : Group → ℤ → Conditions
-conditionsAt g t = record { period = periodAt g t; minutes = tenths (partsOf 10 (minutesAt g t)) }
 
 abbrev pub distanceSum : Distances → Metres
 distanceSum d = metres (d .nearest .0 + d .farthest .0)
@@ -101,7 +95,7 @@ peakUnits = gramParts / 7200000000000
 -- one pollutant's emission, in exact units: a year in 2,000,000,000ths of a gram times a percentage, and a trip out in as many over 3,600 seconds
 unfoldable pub emissionParts : Group → Coefficients → ℕ → Activity → Conditions → Emission
 emissionParts g k p a coldest = record {
-  code = codeOf (g .fuel) p;
+  code = pollutantCode (g .fuel) p;
   annual = annualOf (yearParts g k (partsOf 100 (controlOf g p)) a * g .share * (g .vehicles * yearUnits));
   peak = peakOf (outParts g k (partsOf 100 (controlOf g p)) coldest * g .leaving * peakUnits);
 }
@@ -110,10 +104,6 @@ emissionParts g k p a coldest = record {
 pub record NeutraliserInRange (n : Neutraliser) : Type 0 where
   pub running : n .running ≤ 100
   pub warming : n .warming ≤ 100
-
-pub record ConditionsInRange (w : Conditions) : Type 0 where
-  pub period : w .period < 3
-  pub minutes : w .minutes .0 ≤ 300
 
 pub record ActivityInRange (a : Activity) : Type 0 where
   pub warmup : sumTo 3 (λ (p : ℕ). getD (a .warmup) p (tenths 0) .0) ≤ 111600

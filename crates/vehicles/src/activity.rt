@@ -2,14 +2,14 @@
 ghost use mathlib.Core.Path.{_≡_};
 ghost use mathlib.Core.Bool.{true};
 ghost use Prim.Native.Nat.{_+_, _≤_};
-ghost use Rattle.vehicles.specs.Fields.{groupInRange, coefficientsInRange};
+ghost use Rattle.vehicle_fields.specs.Fields.{groupInRange, coefficientsInRange};
 ghost use Rattle.vehicles.specs.Parts.{ActivityInRange, activityOf, dayRun, dayIdle, warmupParts, runParts};
-use super::group::Coefficients;
-use super::group::Group;
+use super::arithmetic;
 use super::trip;
-use super::units::Metres;
-use super::units::Minutes;
-use super::warmup;
+use vehicle_fields::Coefficients;
+use vehicle_fields::Group;
+use vehicle_fields::Metres;
+use vehicle_fields::Minutes;
 
 // Warm-up and run in the warm, transitional and cold period, and idling: what a pollutant's coefficients are multiplied by. The metres are those of the
 // nearest and of the farthest place together, twice their mean.
@@ -48,13 +48,13 @@ pub(crate) fn activity_of(g: Group, ts: [i16; 12]) -> Activity
     let mut idling = Minutes(0);
     let mut i = 0;
     while i < 12 {
-        let w = warmup::conditions_at(g, ts[i]);
+        let w = warmups::conditions_at(g, ts[i]);
         let period = w.period;
         let t = w.minutes;
         let n = days[i];
-        minutes[period] = minutes[period].plus(n, t);
-        metres[period] = metres[period].plus(n, run);
-        idling = idling.plus(n, idle);
+        minutes[period] = arithmetic::more_minutes(minutes[period], n, t);
+        metres[period] = arithmetic::more_metres(metres[period], n, run);
+        idling = arithmetic::more_minutes(idling, n, idle);
         i += 1;
     }
     Activity {
@@ -79,7 +79,11 @@ pub(crate) fn warmup_of(k: Coefficients, a: Activity) -> u64
 {
     let w = k.warmup;
     let t = a.warmup;
-    total(w[0].over(t[0]), w[1].over(t[1]), w[2].over(t[2]))
+    total(
+        arithmetic::over_minutes(w[0], t[0]),
+        arithmetic::over_minutes(w[1], t[1]),
+        arithmetic::over_minutes(w[2], t[2]),
+    )
 }
 
 pub(crate) fn run_of(k: Coefficients, a: Activity) -> u64
@@ -88,5 +92,9 @@ pub(crate) fn run_of(k: Coefficients, a: Activity) -> u64
 {
     let r = k.run;
     let d = a.run;
-    total(r[0].over(d[0]), r[1].over(d[1]), r[2].over(d[2]))
+    total(
+        arithmetic::over_metres(r[0], d[0]),
+        arithmetic::over_metres(r[1], d[1]),
+        arithmetic::over_metres(r[2], d[2]),
+    )
 }

@@ -2,11 +2,11 @@
 ghost use mathlib.Core.Path.{_≡_};
 ghost use Prim.Native.Nat.{_<_};
 ghost use Rattle.sums.specs.Fraction.{partsOf};
-ghost use Rattle.vehicles.specs.Fields.{pollutantCount};
+ghost use Rattle.vehicle_fields.specs.Fields.{pollutantCount};
 ghost use Rattle.vehicles.specs.Rules.{controlOf};
-use super::group::Group;
-use super::group::POLLUTANTS;
-use super::units;
+use super::arithmetic;
+use vehicle_fields::Group;
+use vehicle_fields::POLLUTANTS;
 
 // Percents, in the pollutants' order.
 const PETROL: [u8; POLLUTANTS] = [80, 90, 100, 100, 95, 95];
@@ -19,9 +19,9 @@ pub(crate) fn control_of(g: Group, place: usize) -> u64
 {
     if g.controlled {
         if g.fuel == 1 {
-            units::wide8(PETROL[place])
+            arithmetic::wide8(PETROL[place])
         } else {
-            units::wide8(DIESEL[place])
+            arithmetic::wide8(DIESEL[place])
         }
     } else {
         100

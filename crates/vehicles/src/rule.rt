@@ -3,25 +3,23 @@ ghost use mathlib.Core.Path.{_≡_};
 ghost use mathlib.Core.Bool.{true};
 ghost use Prim.Native.Nat.{_*_, _<_, _≤_};
 ghost use Rattle.sums.specs.Figures.{annualOf, peakOf};
-ghost use Rattle.vehicles.specs.Fields.{pollutantCount, groupInRange, coefficientsInRange, allInRange};
-ghost use Rattle.vehicles.specs.Rules.{codeOf, emissionsOf, inRange, notZero, refused, groupAnswer};
-ghost use Rattle.vehicles.specs.Parts.{ConditionsInRange, ActivityInRange, yearUnits, peakUnits, yearParts, emissionParts};
+ghost use Rattle.vehicle_fields.specs.Fields.{pollutantCount, groupInRange, coefficientsInRange, allInRange};
+ghost use Rattle.warmups.specs.Parts.{ConditionsInRange};
+ghost use Rattle.vehicles.specs.Rules.{pollutantCode, emissionsOf, groupRefusal, groupAnswer};
+ghost use Rattle.vehicles.specs.Parts.{ActivityInRange, yearUnits, peakUnits, yearParts, emissionParts};
 use super::activity;
 use super::activity::Activity;
+use super::arithmetic;
 use super::control;
-use super::group;
-use super::group::Coefficients;
-use super::group::Group;
-use super::group::POLLUTANTS;
-use super::temperature;
 use super::trip;
-use super::units;
-use super::warmup;
-use super::warmup::Conditions;
 use sums::AnnualSum;
 use sums::Emission;
 use sums::PeakSum;
 use sums::Verdict;
+use vehicle_fields::Coefficients;
+use vehicle_fields::Group;
+use vehicle_fields::POLLUTANTS;
+use warmups::Conditions;
 
 // How many emissions a group's answer holds: one for each pollutant.
 pub const EMISSIONS: usize = POLLUTANTS;
@@ -44,7 +42,7 @@ fn year_of(g: Group, k: Coefficients, control: u64, a: Activity) -> u64
         control,
         activity::warmup_of(k, a),
         activity::run_of(k, a),
-        idle.over(t),
+        arithmetic::over_minutes(idle, t),
     )
 }
 
@@ -58,7 +56,7 @@ fn annual_of(g: Group, year: u64) -> AnnualSum
     requires { ⌜ (groupInRange g ≡ true) × (year ≤ 8928000000000000) ⌝ }
     ensures { λ r. ⌜ r ≡ annualOf (year * g .share * (g .vehicles * yearUnits)) ⌝ }
 {
-    AnnualSum::of(year * units::wide8(g.share)).times(g.vehicles as u32 * YEAR_UNITS)
+    AnnualSum::of(year * arithmetic::wide8(g.share)).times(g.vehicles as u32 * YEAR_UNITS)
 }
 
 // 2,000,000,000ths of a gram over 3,600 seconds are 7,200,000,000,000ths of a gram per second. The product fits 64 bits, so a peak is one word.
@@ -66,16 +64,16 @@ fn peak_of(g: Group, out: u64) -> PeakSum
     requires { ⌜ (groupInRange g ≡ true) × (out ≤ 15000000000000) ⌝ }
     ensures { λ r. ⌜ r ≡ peakOf (out * g .leaving * peakUnits) ⌝ }
 {
-    PeakSum::of(out * units::wide16(g.leaving) * PEAK_UNITS)
+    PeakSum::of(out * arithmetic::wide16(g.leaving) * PEAK_UNITS)
 }
 
 const PETROL_CODES: [u16; POLLUTANTS] = [337, 2704, 301, 328, 330, 184];
 
 const DIESEL_CODES: [u16; POLLUTANTS] = [337, 2754, 301, 328, 330, 184];
 
-fn code_of(fuel: u8, place: usize) -> u16
+fn pollutant_code(fuel: u8, place: usize) -> u16
     requires { ⌜ place < pollutantCount ⌝ }
-    ensures { λ r. ⌜ r ≡ codeOf fuel place ⌝ }
+    ensures { λ r. ⌜ r ≡ pollutantCode fuel place ⌝ }
 {
     if fuel == 1 {
         PETROL_CODES[place]
@@ -97,7 +95,7 @@ fn emission_of(
 {
     let control = control::control_of(g, place);
     Emission {
-        code: code_of(g.fuel, place),
+        code: pollutant_code(g.fuel, place),
         annual: annual_of(g, year_of(g, k, control, a)),
         peak: peak_of(g, trip::out_of(g, k, control, coldest)),
     }
@@ -108,7 +106,7 @@ fn emissions_of(g: Group, ts: [i16; 12], ks: [Coefficients; POLLUTANTS]) -> [Emi
     ensures { λ r. ⌜ r ≡ emissionsOf g ts ks ⌝ }
 {
     let a = activity::activity_of(g, ts);
-    let coldest = warmup::conditions_at(g, temperature::lowest(ts));
+    let coldest = warmups::conditions_at(g, warmups::lowest(ts));
     let mut emissions = [Emission::none(); EMISSIONS];
     let mut p = 0;
     while p < EMISSIONS {
@@ -118,23 +116,10 @@ fn emissions_of(g: Group, ts: [i16; 12], ks: [Coefficients; POLLUTANTS]) -> [Emi
     emissions
 }
 
-fn in_range(g: Group, ts: [i16; 12], ks: [Coefficients; POLLUTANTS]) -> bool
-    ensures { λ r. ⌜ r ≡ inRange g ts ks ⌝ }
-{
-    group::group_in_range(g) & temperature::temperatures_in_range(ts) & group::all_in_range(ks)
-}
-
-// Whether the soot of a petrol group, or the lead of a diesel one, is not zero throughout.
-pub fn forbidden_soot_or_lead(g: Group, ks: [Coefficients; POLLUTANTS]) -> bool
-    ensures { λ r. ⌜ r ≡ notZero g ks ⌝ }
-{
-    ((g.fuel == 1) & !group::all_zero(ks[3])) | ((g.fuel == 2) & !group::all_zero(ks[5]))
-}
-
 impl GroupAnswer {
     // A refusal at slot 0, "with zero figures".
     pub fn refusal(number: u8) -> Self
-        ensures { λ r. ⌜ r ≡ refused number ⌝ }
+        ensures { λ r. ⌜ r ≡ groupRefusal number ⌝ }
     {
         Self {
             verdict: Verdict { number, slot: 0 },
@@ -146,14 +131,14 @@ impl GroupAnswer {
 pub fn group_emissions(g: Group, ts: [i16; 12], ks: [Coefficients; POLLUTANTS]) -> GroupAnswer
     ensures { λ r. ⌜ r ≡ groupAnswer g ts ks ⌝ }
 {
-    if in_range(g, ts, ks) {
-        if forbidden_soot_or_lead(g, ks) {
-            GroupAnswer::refusal(11)
-        } else {
+    if vehicle_fields::in_range(g, ts, ks) {
+        if vehicle_fields::zero_where_due(g, ks) {
             GroupAnswer {
                 verdict: Verdict { number: 0, slot: 0 },
                 emissions: emissions_of(g, ts, ks),
             }
+        } else {
+            GroupAnswer::refusal(11)
         }
     } else {
         GroupAnswer::refusal(9)

@@ -2,15 +2,16 @@
 ghost use mathlib.Core.Path.{_≡_};
 ghost use mathlib.Core.Bool.{true};
 ghost use Prim.Native.Nat.{_*_, _≤_};
-ghost use Rattle.vehicles.specs.Fields.{distancesInRange, groupInRange, coefficientsInRange};
-ghost use Rattle.vehicles.specs.Parts.{ConditionsInRange, NeutraliserInRange, distanceSum, massParts, outParts};
-use super::group::Coefficients;
-use super::group::Distances;
-use super::group::Group;
-use super::group::Neutraliser;
-use super::units;
-use super::units::Metres;
-use super::warmup::Conditions;
+ghost use Rattle.vehicle_fields.specs.Fields.{distancesInRange, groupInRange, coefficientsInRange};
+ghost use Rattle.warmups.specs.Parts.{ConditionsInRange};
+ghost use Rattle.vehicles.specs.Parts.{NeutraliserInRange, distanceSum, massParts, outParts};
+use super::arithmetic;
+use vehicle_fields::Coefficients;
+use vehicle_fields::Distances;
+use vehicle_fields::Group;
+use vehicle_fields::Metres;
+use vehicle_fields::Neutraliser;
+use warmups::Conditions;
 
 pub(crate) fn distance_sum(d: Distances) -> Metres
     requires { ⌜ distancesInRange d ≡ true ⌝ }
@@ -32,8 +33,8 @@ pub(crate) fn mass_of(n: Neutraliser, control: u64, warmup: u64, run: u64, idle:
     requires { ⌜ NeutraliserInRange n × (control ≤ 100) × (warmup ≤ 111600000000) × (run ≤ 29760000000000) × (idle ≤ 186000000000) ⌝ }
     ensures { λ r. ⌜ r ≡ massParts n control warmup run idle ⌝ }
 {
-    let warming = units::wide8(n.warming);
-    let running = units::wide8(n.running);
+    let warming = arithmetic::wide8(n.warming);
+    let running = arithmetic::wide8(n.running);
     percent(percent(2 * warmup, control), warming)
         + (percent(run, running) + percent(percent(2 * idle, control), running))
 }
@@ -56,8 +57,8 @@ pub(crate) fn out_of(g: Group, k: Coefficients, control: u64, w: Conditions) -> 
     mass_of(
         n,
         control,
-        warmup.over(t),
-        run.over(distance_sum(d)),
-        idle.over(idling),
+        arithmetic::over_minutes(warmup, t),
+        arithmetic::over_metres(run, distance_sum(d)),
+        arithmetic::over_minutes(idle, idling),
     )
 }

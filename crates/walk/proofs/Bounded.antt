@@ -14,7 +14,7 @@ use Rattle.sums.proofs.Choices.{both, sumTo-share}
 use Rattle.sums.specs.Exactness.{sourcesMost, Bounded}
 use Rattle.stores.specs.Rules.{handlingContribution, standingContribution, aspirationContribution}
 use Rattle.stores.proofs.Bounds.{handling-bounded, standing-bounded, aspiration-bounded}
-use Rattle.vehicles.specs.Fields.{noCoefficients}
+use Rattle.vehicle_fields.specs.Fields.{noCoefficients}
 use Rattle.vehicles.specs.Rules.{emissionCount, contributionOf}
 use Rattle.vehicles.proofs.Bounds.{group-bounded}
 use Rattle.slots.specs.declared.store.Store.{Store}

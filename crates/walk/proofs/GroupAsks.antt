@@ -1,14 +1,14 @@
 -- All that is asked of a link to a group: of the link, of the coefficient links, and question 11. Assumes nothing.
 use Prim.Native.Nat.{ℕ, _≤_}
 use mathlib.Core.Path.{_≡_, sym, ap, _∙_, subst}
-use mathlib.Core.Bool.{Bool, not}
+use mathlib.Core.Bool.{Bool}
 use mathlib.Core.List.{List, [], _∷_, _++_, append-assoc}
 use lib.Dec.{lit<}
 use Rattle.sums.specs.declared.answer.Verdict.{Verdict}
-use Rattle.vehicles.specs.Fields.{pollutantCount}
-use Rattle.vehicles.specs.Rules.{notZero}
-use Rattle.vehicles.specs.declared.group.Group.{Group}
-use Rattle.vehicles.specs.declared.group.Coefficients.{Coefficients}
+use Rattle.vehicle_fields.specs.Fields.{pollutantCount}
+use Rattle.vehicle_fields.specs.SootAndLead.{zeroWhereDue}
+use Rattle.vehicle_fields.specs.declared.group.Group.{Group}
+use Rattle.vehicle_fields.specs.declared.group.Coefficients.{Coefficients}
 use Rattle.slots.specs.Bytes.{slotOf}
 use Rattle.slots.specs.Layout.{groupOf, groupGood, groupKind, groupRead}
 use Rattle.slots.specs.declared.group.GroupRead.{GroupRead}
@@ -24,7 +24,7 @@ module _ (s : List ℕ) (c : Chains) (g : ℕ) where
   rows = rowsAsks s g pollutantCount ++ afterSixth s g ∷ []
 
   abbrev pub eleven : List Question
-  eleven = question (not (notZero (groupAt s g .group) (groupAt s g .coefficients))) 11 g ∷ []
+  eleven = question (zeroWhereDue (groupAt s g .group) (groupAt s g .coefficients)) 11 g ∷ []
 
   asks-are : groupLinkAsks s c g ++ (rows ++ eleven) ≡ groupAsks s c g
   unfolding groupAsks closingAsks
@@ -44,8 +44,8 @@ module _ (s : List ℕ) (c : Chains) (g : ℕ) where
     link-refused t z = subst (λ (l : List Question). Told l v) asks-are (told-before (groupLinkAsks s c g) (rows ++ eleven) t z)
 
   -- what was told of the coefficient links, and then of question 11
-  pub eleven-told : (before : Verdict) {v : Verdict} (h : Group) (ks : List Coefficients) → v ≡ asked before (question (not (notZero h ks)) 11 g) → AllYes (groupLinkAsks s c g) → Told rows before
+  pub eleven-told : (before : Verdict) {v : Verdict} (h : Group) (ks : List Coefficients) → v ≡ asked before (question (zeroWhereDue h ks) 11 g) → AllYes (groupLinkAsks s c g) → Told rows before
       → h ≡ groupAt s g .group → (before .number ≡ 0 → ks ≡ groupAt s g .coefficients) → Told (groupAsks s c g) v
   eleven-told before {v} h ks t a r e f =
       subst (λ (l : List Question). Told l v) asks-are (told-after (groupLinkAsks s c g) (rows ++ eleven) a
-      (told-ask before _ _ 11 g (lit< tt) r (λ y i. not (notZero (e i) (f y i))) t))
+      (told-ask before _ _ 11 g (lit< tt) r (λ y i. zeroWhereDue (e i) (f y i)) t))

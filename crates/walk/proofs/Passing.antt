@@ -11,7 +11,7 @@ use Rattle.sums.specs.declared.answer.Verdict.{Verdict}
 use Rattle.sums.specs.declared.answer.Emission.{Emission}
 use Rattle.stores.specs.Rules.{handlingContribution, standingContribution, aspirationContribution}
 use Rattle.stores.proofs.Exactly.{handling-emitted, standing-emitted, aspiration-emitted}
-use Rattle.vehicles.specs.Fields.{pollutantCount, noCoefficients}
+use Rattle.vehicle_fields.specs.Fields.{pollutantCount, noCoefficients}
 use Rattle.vehicles.specs.declared.rule.GroupAnswer.{GroupAnswer}
 use Rattle.vehicles.specs.Rules.{emissionCount, contributionOf, emissionOf, emissionsOf, groupAnswer}
 use Rattle.slots.specs.Bytes.{slotOf}

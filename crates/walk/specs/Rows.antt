@@ -4,7 +4,7 @@ use mathlib.Core.Path.{_≡_}
 use mathlib.Core.Bool.{Bool, true}
 use mathlib.Core.List.{List, [], _∷_, _++_}
 use lib.ListN.{set}
-use Rattle.vehicles.specs.Fields.{pollutantCount}
+use Rattle.vehicle_fields.specs.Fields.{pollutantCount}
 use Rattle.slot_file.specs.Sources.{coefficientSlot, groupAt}
 use Rattle.slot_file.specs.Questions.{afterSixth, rowsAsks}
 use Rattle.walk.specs.Told.{Told}

@@ -13,9 +13,9 @@ use super::walked::Walked;
 use slot_file::MOST_SLOTS;
 use slots::Header;
 use sums::Verdict;
-use vehicles::Coefficients;
-use vehicles::Group;
-use vehicles::POLLUTANTS;
+use vehicle_fields::Coefficients;
+use vehicle_fields::Group;
+use vehicle_fields::POLLUTANTS;
 
 // What a link to a group was told, the group with its coefficients, and the next link.
 pub(crate) struct GroupStep {

@@ -1,8 +1,7 @@
 // The questions in order: of a list of them, the number and the slot of the first that is answered no, or 0 and 0.
 ghost use mathlib.Core.Path.{_≡_};
-ghost use mathlib.Core.Bool.{not};
 ghost use Prim.Native.Nat.{_≤_};
-ghost use Rattle.vehicles.specs.Rules.{notZero};
+ghost use Rattle.vehicle_fields.specs.SootAndLead.{zeroWhereDue};
 ghost use Rattle.slot_file.specs.Sources.{headerAt};
 ghost use Rattle.slot_file.specs.Questions.{mostSlots, question, headAsks};
 ghost use Rattle.walk.specs.Told.{asked, isMarked, Told, LinkTold, RowTold, ReachTold};
@@ -11,9 +10,9 @@ use slots::CoefficientsRead;
 use slots::Header;
 use slots::SLOT_SIZE;
 use sums::Verdict;
-use vehicles::Coefficients;
-use vehicles::Group;
-use vehicles::POLLUTANTS;
+use vehicle_fields::Coefficients;
+use vehicle_fields::Group;
+use vehicle_fields::POLLUTANTS;
 
 pub(crate) fn accept() -> Verdict
     ensures { λ r. ⌜ r ≡ record { number = 0; slot = 0 } ⌝ }
@@ -53,7 +52,7 @@ pub(crate) fn ask_head(file: &[u8], h: Header) -> Verdict
     let v = ask(v, h.format == 1, 2, 0);
     let v = ask(v, h.count as usize == n / SLOT_SIZE, 3, 0);
     let v = ask(v, h.rest, 4, 0);
-    ask(v, vehicles::temperatures_in_range(temperatures), 5, 0)
+    ask(v, vehicle_fields::temperatures_in_range(temperatures), 5, 0)
 }
 
 // Whether the slot k is marked.
@@ -104,14 +103,10 @@ pub(crate) fn ask_soot_and_lead(
     coefficients: [Coefficients; POLLUTANTS],
     link: u16,
 ) -> Verdict
-    ensures { λ r. ⌜ r ≡ asked before (question (not (notZero group coefficients)) 11 link) ⌝ }
+    ensures { λ r. ⌜ r ≡ asked before (question (zeroWhereDue group coefficients) 11 link) ⌝ }
 {
-    ask(
-        before,
-        !vehicles::forbidden_soot_or_lead(group, coefficients),
-        11,
-        link,
-    )
+    let zero = vehicle_fields::zero_where_due(group, coefficients);
+    ask(before, zero, 11, link)
 }
 
 // Question 12, of each slot from 1 up.

@@ -10,10 +10,10 @@ use super::questions;
 use slot_file::MOST_SLOTS;
 use slots::CoefficientsRead;
 use sums::Verdict;
-use vehicles::Coefficients;
-use vehicles::POLLUTANTS;
-use vehicles::PerKilometre;
-use vehicles::PerMinute;
+use vehicle_fields::Coefficients;
+use vehicle_fields::POLLUTANTS;
+use vehicle_fields::PerKilometre;
+use vehicle_fields::PerMinute;
 
 // One for each pollutant.
 const ROWS: u8 = POLLUTANTS as u8;

@@ -6,7 +6,7 @@ use mathlib.Core.Path.{ap₂}
 use mathlib.Core.List.{List}
 use Rattle.sums.specs.Choice.{if_then_else}
 use Rattle.slot_file.specs.Listing.{listed}
-use Rattle.listing.proofs.Writing.{held, copied}
+use Rattle.listing.proofs.Copying.{held, copied}
 use Rattle.listing.proofs.list_answer.Statement.{statement}
 use Rattle.listing.proofs.list_answer.Tie as tie
 

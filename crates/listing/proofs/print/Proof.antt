@@ -2,7 +2,7 @@
 use native.Mathlib.Omega.{arith}
 use Rattle.slot_file.specs.Figures.{answer}
 use Rattle.slot_file.specs.Listing.{printed}
-use Rattle.listing.proofs.Writing.{fronted}
+use Rattle.listing.proofs.Copying.{fronted}
 use Rattle.listing.proofs.print.Statement.{statement}
 use Rattle.listing.proofs.print.Tie as tie
 

@@ -1,6 +1,6 @@
 -- The array holds what is printed, so that its first bytes are what is copied.
 use native.Mathlib.Omega.{arith}
-use Rattle.listing.proofs.Writing.{held, copied}
+use Rattle.listing.proofs.Copying.{held, copied}
 use Rattle.listing.proofs.print_answer.Statement.{statement}
 use Rattle.listing.proofs.print_answer.Tie as tie
 

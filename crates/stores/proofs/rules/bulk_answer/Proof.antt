@@ -9,7 +9,7 @@ bulk-answer-spec =
     tie.close
     (tie.spec (omega arith) (omega arith) (omega arith) (omega arith) (omega arith)
     (λ c. rw (
-      c .answer .ensures,
+      c .store-answer .ensures,
       c .before .times2 .ensures,
       c .before .before .of2 .ensures,
       c .before .before .before .times .ensures,

@@ -2,7 +2,7 @@
 use native.Mathlib.Omega.{arith}
 use mathlib.Core.Path.{ap}
 use Rattle.sums.specs.declared.answer.Verdict.{Verdict}
-use Rattle.tezhebul.specs.Numbers.{packed}
+use Rattle.answer_numbers.specs.Numbers.{packed}
 use Rattle.tezhebul.proofs.files.tezhebul_check.Statement.{statement}
 use Rattle.tezhebul.proofs.files.tezhebul_check.Tie as tie
 

@@ -2,7 +2,7 @@
 use native.Mathlib.Omega.{arith}
 use mathlib.Core.Path.{ap, _∙_}
 use Rattle.slot_file.specs.Listing.{Listed}
-use Rattle.tezhebul.specs.Numbers.{numbersOf, into}
+use Rattle.answer_numbers.specs.Numbers.{numbersOf, into}
 use Rattle.tezhebul.proofs.files.tezhebul_list.Statement.{statement}
 use Rattle.tezhebul.proofs.files.tezhebul_list.Tie as tie
 

@@ -9,7 +9,7 @@ use lib.IntN.{ℤ}
 use lib.ListN.{length}
 use Rattle.sums.specs.Choice.{if_then_else}
 use Rattle.sums.proofs.Choices.{nth}
-use Rattle.vehicles.specs.Fields.{pollutantCount}
+use Rattle.vehicle_fields.specs.Fields.{pollutantCount}
 use Rattle.tezhebul.specs.Fields.{rowSize, lengthTests, lengths}
 use Rattle.tezhebul.proofs.rules.tezhebul_group.Statement.{statement}
 use Rattle.tezhebul.proofs.rules.tezhebul_group.Tie as tie

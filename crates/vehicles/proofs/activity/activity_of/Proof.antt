@@ -8,7 +8,8 @@ use mir.Syntax.{w16}
 use mir.Facts.{toZ-ofZ}
 use Rattle.sums.specs.Choice.{sumTo}
 use Rattle.sums.proofs.Choices.{sumTo-step, sumTo-bound, listTo-is}
-use Rattle.vehicles.specs.Parts.{tenths, metres, monthConditions, monthWarmup, monthRun, monthIdle, inPeriod, activityOf}
+use Rattle.warmups.specs.Warmup.{tenths}
+use Rattle.vehicles.specs.Parts.{metres, monthConditions, monthWarmup, monthRun, monthIdle, inPeriod, activityOf}
 use Rattle.vehicles.proofs.Ranges.{ranged, three}
 use Rattle.vehicles.proofs.Periods.{added, alone, day-run, warmup-most, run-most, idle-most}
 use Rattle.vehicles.proofs.activity.activity_of.Statement.{statement}
@@ -32,8 +33,8 @@ loop-holds c = (omega arith, refl, refl, three _ refl refl refl, three _ refl re
 of-year : (b : tie.At-loop Inv-loop μ-loop) (m : ℕ) → m < b .loop .i → m < 12
 of-year b m l = omega arith
 
-plus-requires : tie.Need-plus-requires Inv-loop μ-loop
-plus-requires c κs =
+warmup-fits : tie.Need-more-minutes-requires Inv-loop μ-loop
+warmup-fits c κs =
     let b = c .before .before .before .before .before in
     let s = b .before .before .before .before in
     let g = s .args .g in
@@ -44,8 +45,8 @@ plus-requires c κs =
       omega (arith, w .ensures .1 .minutes),
     )
 
-plus-requires-2 : tie.Need-plus-requires-2 Inv-loop μ-loop
-plus-requires-2 c κs =
+run-fits : tie.Need-more-metres-requires Inv-loop μ-loop
+run-fits c κs =
     let b = c .before .before .before .before .before .before .before in
     let s = b .before .before .before .before in
     let g = s .args .g in
@@ -56,8 +57,8 @@ plus-requires-2 c κs =
       rw (b .before .before .day-run .ensures) (day-run g (s .pre)),
     )
 
-plus-requires-3 : tie.Need-plus-requires-3 Inv-loop μ-loop
-plus-requires-3 c κs =
+idling-fits : tie.Need-more-minutes-requires-2 Inv-loop μ-loop
+idling-fits c κs =
     let b = c .before .before .before .before .before .before .before .before in
     let s = b .before .before .before .before in
     let g = s .args .g in (
@@ -77,11 +78,11 @@ loop-again c =
       omega arith,
       simp length-set (b .loop .inv .1),
       simp length-set (b .loop .inv .2),
-      added (s .g) (s .t2) (monthWarmup (s .g) (s .t2)) (tenths 0) tenths (b .loop .minutes) (b .loop .i) q (c .before .before .before .plus .result)
-          (rw e) (omega arith) (b .loop .inv .3) (ap tenths (c .before .before .before .plus .ensures ∙ rw (b .loop .inv .3 q l, e))),
-      added (s .g) (s .t2) (monthRun (s .g)) (metres 0) metres (b .loop .metres) (b .loop .i) q (c .before .plus2 .result)
-          (rw e) (omega arith) (b .loop .inv .4) (ap metres (c .before .plus2 .ensures ∙ rw (b .loop .inv .4 q l, b .before .before .day-run .ensures))),
-      ap tenths (c .plus3 .ensures ∙ rw (b .loop .inv .5, b .before .day-idle .ensures, sumTo-step (b .loop .i) (monthIdle (s .g)))),
+      added (s .g) (s .t2) (monthWarmup (s .g) (s .t2)) (tenths 0) tenths (b .loop .minutes) (b .loop .i) q (c .before .before .before .more-minutes .result)
+          (rw e) (omega arith) (b .loop .inv .3) (ap tenths (c .before .before .before .more-minutes .ensures ∙ rw (b .loop .inv .3 q l, e))),
+      added (s .g) (s .t2) (monthRun (s .g)) (metres 0) metres (b .loop .metres) (b .loop .i) q (c .before .more-metres .result)
+          (rw e) (omega arith) (b .loop .inv .4) (ap metres (c .before .more-metres .ensures ∙ rw (b .loop .inv .4 q l, b .before .before .day-run .ensures))),
+      ap tenths (c .more-minutes2 .ensures ∙ rw (b .loop .inv .5, b .before .day-idle .ensures, sumTo-step (b .loop .i) (monthIdle (s .g)))),
     )
 
 returns : tie.Need-returns Inv-loop μ-loop
@@ -103,6 +104,6 @@ activity-of-spec =
     (tie.spec Inv-loop μ-loop
     (λ c κs. c .before .pre)
     (λ c κs. let s = c .before .before in ranged (s .args .g) (s .pre) .idle)
-    loop-holds (omega arith) (omega arith) (omega arith) (omega arith) (omega arith) (omega arith) plus-requires (omega arith) (omega arith)
-    (omega arith) (omega arith) plus-requires-2 (omega arith) (omega arith) plus-requires-3 (omega arith) (omega arith)
+    loop-holds (omega arith) (omega arith) (omega arith) (omega arith) (omega arith) (omega arith) warmup-fits (omega arith) (omega arith)
+    (omega arith) (omega arith) run-fits (omega arith) (omega arith) idling-fits (omega arith) (omega arith)
     loop-again returns)

@@ -12,8 +12,8 @@ run-of-spec =
     (tie.spec (omega arith) (omega arith) (omega arith) (omega arith) (omega arith) (omega arith) (omega arith) (omega arith) (omega arith)
     (λ c κs.
     let b = c .before .before .before .before .before .before .before .before .before .before .before in
-    rw (c .over3 .ensures, c .before .before .before .over2 .ensures, c .before .before .before .before .before .before .over .ensures)
+    rw (c .over-metres3 .ensures, c .before .before .before .over-metres2 .ensures, c .before .before .before .before .before .before .over-metres .ensures)
     (omega (arith, run-parts (b .args .k) (b .args .a) (b .pre .0) (b .pre .1))))
     (λ c.
     let b = c .before in
-    rw (c .total .ensures, b .over3 .ensures, b .before .before .before .over2 .ensures, b .before .before .before .before .before .before .over .ensures) (omega arith)))
+    rw (c .total .ensures, b .over-metres3 .ensures, b .before .before .before .over-metres2 .ensures, b .before .before .before .before .before .before .over-metres .ensures) (omega arith)))

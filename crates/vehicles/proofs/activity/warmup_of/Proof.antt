@@ -12,8 +12,8 @@ warmup-of-spec =
     (tie.spec (omega arith) (omega arith) (omega arith) (omega arith) (omega arith) (omega arith) (omega arith) (omega arith) (omega arith)
     (λ c κs.
     let b = c .before .before .before .before .before .before .before .before .before .before .before in
-    rw (c .over3 .ensures, c .before .before .before .over2 .ensures, c .before .before .before .before .before .before .over .ensures)
+    rw (c .over-minutes3 .ensures, c .before .before .before .over-minutes2 .ensures, c .before .before .before .before .before .before .over-minutes .ensures)
     (omega (arith, warmup-parts (b .args .k) (b .args .a) (b .pre .0) (b .pre .1))))
     (λ c.
     let b = c .before in
-    rw (c .total .ensures, b .over3 .ensures, b .before .before .before .over2 .ensures, b .before .before .before .before .before .before .over .ensures) (omega arith)))
+    rw (c .total .ensures, b .over-minutes3 .ensures, b .before .before .before .over-minutes2 .ensures, b .before .before .before .before .before .before .over-minutes .ensures) (omega arith)))

@@ -41,7 +41,7 @@ returns c =
       c .before .out-of .ensures,
       c .before .before .annual-of .ensures,
       c .before .before .before .year-of .ensures,
-      c .before .before .before .before .code-of .ensures,
+      c .before .before .before .before .pollutant-code .ensures,
       c .before .before .before .before .before .control-of .ensures,
     )
 

@@ -7,7 +7,7 @@ use mir.Syntax.{w16}
 use mir.Facts.{toZ-ofZ}
 use Rattle.sums.specs.Answer.{noEmission}
 use Rattle.sums.proofs.Choices.{filled, listTo-is}
-use Rattle.vehicles.specs.Fields.{noCoefficients}
+use Rattle.vehicle_fields.specs.Fields.{noCoefficients}
 use Rattle.vehicles.specs.Rules.{emissionOf, emissionCount, emissionsOf}
 use Rattle.vehicles.specs.Parts.{emissionParts}
 use Rattle.vehicles.proofs.Ranges.{of-six}

@@ -1,4 +1,6 @@
 -- The two tests choose the answer; a group in range has what the emissions ask.
+use borrow.Author.Tests.{not-true, not-false}
+use borrow.Author.Tests.{not-true, not-false}
 use native.Mathlib.Omega.{arith}
 use mathlib.Core.Path.{_∙_, sym}
 use Rattle.sums.proofs.Choices.{yes, no}
@@ -11,13 +13,13 @@ pub group-emissions-spec : {M : Type 1} → statement M
 unfolding groupAnswer
 group-emissions-spec =
     tie.close
-    (tie.spec (omega arith) (omega arith) (omega arith)
+    (tie.spec (omega arith) (omega arith)
     (λ c κs. all-in-range _ _ _ (sym (c .before .before .before .in-range .ensures) ∙ c .before .before .if1 .taken))
-    (omega arith)
+    (omega arith) (omega arith)
     (λ c.
     yes _ _ _ _ (sym (c .before .before .before .before .in-range .ensures) ∙ c .before .before .before .if1 .taken)
-    (yes _ _ _ _ (sym (c .before .before .forbidden-soot-or-lead .ensures) ∙ c .before .if2 .taken) (c .refusal .ensures)))
+    (yes _ _ _ _ (sym (c .before .before .zero-where-due .ensures) ∙ c .before .if2 .taken) (rw (c .emissions-of .ensures))))
     (λ c.
     yes _ _ _ _ (sym (c .before .before .before .before .in-range .ensures) ∙ c .before .before .before .if1 .taken)
-    (no _ _ _ _ (sym (c .before .before .forbidden-soot-or-lead .ensures) ∙ c .before .if2 .left) (rw (c .emissions-of .ensures))))
+    (no _ _ _ _ (sym (c .before .before .zero-where-due .ensures) ∙ c .before .if2 .left) (c .refusal .ensures)))
     (λ c. no _ _ _ _ (sym (c .before .before .in-range .ensures) ∙ c .before .if1 .left) (c .refusal2 .ensures)))

@@ -15,12 +15,12 @@ mass-of-requires c κs =
       b .pre .2,
       rw (c .before .before .warmup-of .ensures) (warmup-parts (s .k) (s .a) (b .pre .1) (b .pre .3)),
       rw (c .before .run-of .ensures) (run-parts (s .k) (s .a) (b .pre .1) (b .pre .3)),
-      rw (c .over .ensures) (idle-parts (s .k) (s .a) (b .pre .1) (b .pre .3)),
+      rw (c .over-minutes .ensures) (idle-parts (s .k) (s .a) (b .pre .1) (b .pre .3)),
     )
 
 returns : tie.Need-returns
 unfolding yearParts
-returns c = rw (c .mass-of .ensures, c .before .over .ensures, c .before .before .run-of .ensures, c .before .before .before .warmup-of .ensures)
+returns c = rw (c .mass-of .ensures, c .before .over-minutes .ensures, c .before .before .run-of .ensures, c .before .before .before .warmup-of .ensures)
 
 pub year-of-spec : {M : Type 1} → statement M
 year-of-spec = tie.close (tie.spec (λ c κs. search needs) (λ c κs. search needs) (omega arith) mass-of-requires returns)

@@ -15,10 +15,10 @@ mass-of-requires c κs =
     let g = ranged (s .g) (b .pre .0) in (
       g .neutraliser,
       b .pre .2,
-      rw (c .before .before .before .over .ensures) (omega (arith, warmup (s .k) k (s .w .period) (w .period) ⊗ w .minutes)),
-      rw (c .before .over2 .ensures, c .before .before .distance-sum .ensures)
+      rw (c .before .before .before .over-minutes .ensures) (omega (arith, warmup (s .k) k (s .w .period) (w .period) ⊗ w .minutes)),
+      rw (c .before .over-metres .ensures, c .before .before .distance-sum .ensures)
           (omega (arith, run (s .k) k (s .w .period) (w .period) ⊗ twice (s .g .outward) (g .outward))),
-      rw (c .over3 .ensures) (omega (arith, idle (s .k) k ⊗ g .idle)),
+      rw (c .over-minutes2 .ensures) (omega (arith, idle (s .k) k ⊗ g .idle)),
     )
 
 returns : tie.Need-returns
@@ -26,10 +26,10 @@ unfolding outParts
 returns c =
     rw (
       c .mass-of .ensures,
-      c .before .over3 .ensures,
-      c .before .before .over2 .ensures,
+      c .before .over-minutes2 .ensures,
+      c .before .before .over-metres .ensures,
       c .before .before .before .distance-sum .ensures,
-      c .before .before .before .before .over .ensures,
+      c .before .before .before .before .over-minutes .ensures,
     )
 
 pub out-of-spec : {M : Type 1} → statement M

@@ -9,7 +9,7 @@ use native.Mathlib.Numerals.{add-one}
 use borrow.Author.Tests.{ltb-true, eq-eqb, ne-eqb}
 use lib.ListN.{getD, set, length}
 use Rattle.sums.proofs.Choices.{filled, listTo-is}
-use Rattle.vehicles.specs.Fields.{pollutantCount, noCoefficients}
+use Rattle.vehicle_fields.specs.Fields.{pollutantCount, noCoefficients}
 use Rattle.slots.specs.Bytes.{slotOf}
 use Rattle.slots.specs.Layout.{coefficientsRead}
 use Rattle.slots.specs.declared.coefficients.CoefficientsRead.{CoefficientsRead}

@@ -1,0 +1,42 @@
+-- Four numbers, and after them the figures as they stand.
+use borrow.Author.Needs.{needs}
+use native.Mathlib.Omega.{arith}
+use Prim.Native.Nat.{_+_}
+use mathlib.Core.Path.{_≡_, _∙_}
+use mathlib.Core.List.{_++_, append-nil}
+use lib.ListN.{length}
+use lib.Seq.{sets-eq}
+use Rattle.slot_file.specs.Codes.{codeCount}
+use Rattle.listing_lines.proofs.Writing.{then}
+use Rattle.answer_numbers.specs.Numbers.{answerSize}
+use Rattle.answer_numbers.proofs.numbers.numbers_of.Statement.{statement}
+use Rattle.answer_numbers.proofs.numbers.numbers_of.Tie as tie
+
+put-numbers-requires : tie.Need-put-numbers-requires
+put-numbers-requires c κs =
+    let l : length (c .before .before .before .before .before .before .before .before .args .a .annual) ≡ codeCount = search needs in
+    omega arith
+
+put-numbers-requires-2 : tie.Need-put-numbers-requires-2
+put-numbers-requires-2 c κs =
+    let l : length (c .before .before .before .before .before .before .before .before .before .before .before .before .args .a .peak) ≡ codeCount = search needs in
+    omega arith
+
+returns : tie.Need-returns
+returns c =
+    let p = c .before .before .before .before .before in
+    let s = p .before .before .before .before .before .before .before .before .before in
+    let x = s .args .a .annual in
+    let y = s .args .a .peak in
+    let l : length x ≡ codeCount = search needs in
+    let m : length y ≡ codeCount = search needs in
+    let d =
+    then {a = x} {b = y} {i = 4} {j = 4 + codeCount} {k = answerSize} (record { stored = p .put-numbers .ensures; next = omega arith })
+    (record { stored = c .before .put-numbers2 .ensures; next = omega arith }) in
+    d .stored ∙ sets-eq (x ++ y) _ 4 (omega arith) ∙ rw (← d .next, append-nil (x ++ y))
+
+pub numbers-of-spec : {M : Type 1} → statement M
+numbers-of-spec =
+    tie.close
+    (tie.spec (omega arith) (omega arith) (omega arith) (omega arith) (omega arith) (omega arith) (omega arith) (omega arith) (λ c. search needs) (omega arith)
+    put-numbers-requires (λ c. search needs) (λ c. search needs) (omega arith) put-numbers-requires-2 returns)

@@ -1,0 +1,103 @@
+// Answers as numbers, and numbers in a caller's memory.
+ghost use mathlib.Core.Path.{_≡_};
+ghost use Prim.Native.Nat.{_+_, _≤_};
+ghost use lib.ListN.{length};
+ghost use lib.Seq.{sets};
+ghost use Rattle.answer_numbers.specs.Numbers.{Given, numbersOf, emissionNumbers, ruleNumbers, storeNumbers};
+use slot_file::Answer;
+use slot_file::COUNT;
+use stores::StoreAnswer;
+use sums::Emission;
+use sums::Verdict;
+use vehicles::EMISSIONS;
+
+// How many numbers there are of an answer, of an emission, and of what the rules answer.
+const ANSWER_SIZE: usize = 4 + 2 * COUNT;
+
+const EMISSION_SIZE: usize = 5;
+
+const STORE_SIZE: usize = 2 + EMISSION_SIZE;
+
+const GROUP_SIZE: usize = 2 + EMISSION_SIZE * EMISSIONS;
+
+// Numbers from a place of a buffer on, which has room for them.
+fn put_numbers(numbers: &[u64], out: &mut [u64], from: usize)
+    requires { ⌜ from + length (now numbers) ≤ length (now out) ⌝ }
+    ensures { λ _. ⌜ now (out .exit) ≡ sets (now (out .entry)) from (now (numbers .entry)) ⌝ }
+{
+    let mut i = 0;
+    while i < numbers.len() {
+        out[from + i] = numbers[i];
+        i += 1;
+    }
+}
+
+// Numbers at the start of `out`; false, and nothing written, where it has room for fewer.
+pub(crate) fn give(numbers: &[u64], out: &mut [u64]) -> bool
+    ensures { λ r. ⌜ Given (length (now (numbers .entry))) (now (numbers .entry)) (now (out .entry)) r (now (out .exit)) ⌝ }
+{
+    if out.len() < numbers.len() {
+        return false;
+    }
+    put_numbers(numbers, out, 0);
+    true
+}
+
+pub(crate) fn numbers_of(a: Answer) -> [u64; ANSWER_SIZE]
+    ensures { λ r. ⌜ r ≡ numbersOf a ⌝ }
+{
+    let x = a.annual;
+    let y = a.peak;
+    let mut numbers = [0; ANSWER_SIZE];
+    numbers[0] = a.number as u64;
+    numbers[1] = a.slot as u64;
+    numbers[2] = a.counts.groups as u64;
+    numbers[3] = a.counts.stores as u64;
+    put_numbers(&x, &mut numbers, 4);
+    put_numbers(&y, &mut numbers, 4 + COUNT);
+    numbers
+}
+
+fn emission_numbers(e: Emission) -> [u64; EMISSION_SIZE]
+    ensures { λ r. ⌜ r ≡ emissionNumbers e ⌝ }
+{
+    let a = e.annual;
+    let p = e.peak;
+    let annual = a.printed();
+    let peak = p.printed();
+    [
+        e.code as u64,
+        annual.whole,
+        annual.part,
+        peak.whole,
+        peak.part,
+    ]
+}
+
+pub(crate) fn store_numbers(a: StoreAnswer) -> [u64; STORE_SIZE]
+    ensures { λ r. ⌜ r ≡ storeNumbers a ⌝ }
+{
+    let e = a.emission;
+    let x = emission_numbers(e);
+    let mut numbers = [0; STORE_SIZE];
+    numbers[0] = a.verdict.number as u64;
+    numbers[1] = a.verdict.slot as u64;
+    put_numbers(&x, &mut numbers, 2);
+    numbers
+}
+
+pub(crate) fn group_numbers(v: Verdict, es: [Emission; EMISSIONS]) -> [u64; GROUP_SIZE]
+    ensures { λ r. ⌜ r ≡ ruleNumbers v es ⌝ }
+{
+    let mut numbers = [0; GROUP_SIZE];
+    numbers[0] = v.number as u64;
+    numbers[1] = v.slot as u64;
+    let mut p = 0;
+    while p < EMISSIONS {
+        let e = es[p];
+        let x = emission_numbers(e);
+        put_numbers(&x, &mut numbers, 2 + EMISSION_SIZE * p);
+        p += 1;
+    }
+    numbers
+}

@@ -1,9 +1,0 @@
--- The tests as they stand, the first of them the bulk's.
-use native.Mathlib.Omega.{arith}
-use Rattle.stores.specs.Fields.{handlingInRange}
-use Rattle.stores.proofs.records.handling_in_range.Statement.{statement}
-use Rattle.stores.proofs.records.handling_in_range.Tie as tie
-
-pub handling-in-range-spec : {M : Type 1} → statement M
-unfolding handlingInRange
-handling-in-range-spec = tie.close (tie.spec (omega arith) (λ c. rw (c .before .before .bulk-in-range .ensures)))
