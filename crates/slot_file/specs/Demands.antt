@@ -17,11 +17,11 @@ use Rattle.vehicles.specs.Rules.{emissionCount, contributionOf, groupAnswer}
 use Rattle.stores.specs.Rules.{handlingContribution, standingContribution, aspirationContribution, handlingAnswer, standingAnswer, aspirationAnswer}
 use Rattle.slots.specs.declared.store.Store.{Store}
 use Rattle.slots.specs.declared.store.Store.the-variants.{Handling, Standing, Aspiration}
-use Rattle.slot_file.specs.Sources.{VehicleGroup, Chains, Inventory, inventoryAt}
+use Rattle.slot_file.specs.Sources.{VehicleGroup, Chains, Inventory}
 use Rattle.slot_file.specs.Questions.{slotCount, member, reachedOf}
 use Rattle.slot_file.specs.Meaning.{Accepts, Refuses}
-use Rattle.slot_file.specs.Codes.{codes, codeCount}
-use Rattle.slot_file.specs.Figures.{contributions, exactSum, countsOf, refusal, answer}
+use Rattle.slot_file.specs.Codes.{codes}
+use Rattle.slot_file.specs.Figures.{exactSum, countsOf, refusal, answer}
 
 -- DEMAND 1: "either accepted or refused by number and slot. It is accepted exactly when every question in document 01 is answered yes"; "A refusal gives no
 -- figures": of a check's number and slot

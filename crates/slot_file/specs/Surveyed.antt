@@ -1,12 +1,23 @@
--- 01, "Surveyed examples": the starred rows, as files of bytes with what they print.
-use Prim.Native.Nat.{ℕ, _-_, _/_, _%_}
-use mathlib.Core.List.{List, [], _∷_, _++_, flatMap}
+-- 01, "Surveyed examples": the starred rows, as files of bytes with what they print; and files for what 01 and the letter say of refusals, of lent buffers and of
+-- two desks.
+use Prim.Native.Nat.{ℕ, _+_, _-_, _/_, _%_}
+use mathlib.Core.Path.{_≡_}
+use mathlib.Core.List.{List, [], _∷_, _++_, map, flatMap}
 use lib.Dec.{eqb}
-use lib.ListN.{length, replicate}
+use lib.IntN.{pos}
+use lib.ListN.{getD, length, replicate}
 use Prim.Native.String.{String}
 use Rattle.sums.specs.Choice.{if_then_else}
+use Rattle.sums.specs.Fraction.{Frac, _over_, whole}
+use Rattle.warmups.specs.Warmup.{minutesAt}
+use Rattle.slot_file.specs.declared.Answer.{Answer}
+use Rattle.slot_file.specs.Sources.{VehicleGroup, temperaturesAt, Chains, inventoryAt}
+use Rattle.slot_file.specs.Questions.{Verdict, accepted, refused}
+use Rattle.slot_file.specs.Walk.{verdict}
 use Rattle.slot_file.specs.Codes.{codes}
-use Rattle.slot_file.specs.Listing.{text, decimal, padded}
+use Rattle.slot_file.specs.Figures.{refusal, answer}
+use Rattle.slot_file.specs.Alike.{AlikeFiles}
+use Rattle.slot_file.specs.Listing.{Listed, listed, text, decimal, padded, printed}
 
 -- two and four bytes, little-endian, and a slot filled up with zeros
 abbrev two : ℕ → List ℕ
@@ -62,13 +73,25 @@ air c v capture hours = two 0 ++ four c ++ four v ++ two capture ++ two hours
 abbrev one : List ℕ → List ℕ
 one record₁ = head 2 0 1 (two 0) ++ record₁
 
--- a file, and the bytes that are printed for it
+-- a file, the warm-up minutes of each of its groups in January, and the bytes that are printed for it
 pub record Row : Type 0 where
   pub file : List ℕ
+  pub minutes : List Frac
   pub prints : List ℕ
 
-abbrev given : List ℕ → List ℕ → Row
-given f t = record { file = f; prints = t }
+abbrev given : List ℕ → List Frac → List ℕ → Row
+given f m t = record { file = f; minutes = m; prints = t }
+
+abbrev warmups : List ℕ → Verdict → List Frac
+warmups s (accepted c) = map (λ (v : VehicleGroup). minutesAt (v .group) (getD (temperaturesAt s) 0 (pos 0))) (inventoryAt s c .groups)
+warmups s (refused n k) = []
+
+-- what the definitions make of a row's file: a table is right where this is the table itself
+abbrev pub worked : Row → Row
+worked r = given (r .file) (warmups (r .file) (verdict (r .file))) (printed (answer (r .file)))
+
+abbrev pub Right : List Row → Type 0
+Right rows = map worked rows ≡ rows
 
 -- a code's line, zero where it is not the one that has figures; that codes and counts are written so, B's listing below says letter by letter
 abbrev codeLine : ℕ → String → ℕ → List ℕ
@@ -85,46 +108,80 @@ listingOfB = "code t/year g/s\n0152 0.000000 0.0000000\n0184 0.000000 0.0000000\
 
 -- a record's file, and the listing of its dust 2908
 abbrev dust : List ℕ → String → Row
-dust bytes figures = given (one bytes) (sheet 2908 figures 0 1)
+dust bytes figures = given (one bytes) [] (sheet 2908 figures 0 1)
 
 -- a temperature below zero
 abbrev below : ℕ → List ℕ
 below n = two (65536 - n)
 
--- B's yard at a temperature, and its line
-abbrev warmed : List ℕ → String → Row
-warmed t figures = given (yard 0 t) (sheet 337 figures 1 0)
+-- B's yard with flags at a temperature, its minutes, and its line
+abbrev car : ℕ → List ℕ → Frac → String → Row
+car flags t m figures = given (yard flags t) (m ∷ []) (sheet 337 figures 1 0)
 
 abbrev pub fileOfB : List ℕ
 fileOfB = yard 0 (two 100)
 
-unfoldable pub surveyed : List Row
-surveyed =
-    given (head 1 0 0 (two 0)) (sheet 0 "" 0 0)  -- A
-    ∷ given (yard 0 (two 100)) (text listingOfB)  -- B
-    ∷ given (yard 1 (two 100)) (sheet 337 " 0.020160 0.0146667" 1 0)  -- C, with control
-    ∷ given (yard 2 (two 100)) (sheet 337 " 0.016800 0.0111111" 1 0)  -- D, heated
-    ∷ dust (store 0 3 2 (bulk 5 20 50 10 1 4 0 1200)) " 3.894065 0.1764000"  -- E
+-- A to D
+unfoldable pub yards : List Row
+yards =
+    given (head 1 0 0 (two 0)) [] (sheet 0 "" 0 0)  -- A
+    ∷ given fileOfB (whole 3 ∷ []) (text listingOfB)  -- B
+    ∷ car 1 (two 100) (whole 3) " 0.020160 0.0146667"  -- C, with control
+    ∷ car 2 (two 100) (15 over 10) " 0.016800 0.0111111"  -- D, heated
+    ∷ []
+
+-- E to J
+unfoldable pub records : List Row
+records =
+    dust (store 0 3 2 (bulk 5 20 50 10 1 4 0 1200)) " 3.894065 0.1764000"  -- E
     ∷ dust (store 0 3 2 (bulk 5 21 50 10 1 4 0 1200)) " 4.672878 0.2116800"  -- F, at wind 2.1
     ∷ dust (store 0 3 2 (bulk 5 140 50 10 1 4 0 1200)) " 8.956350 0.4057200"  -- "14.0 is accepted"
-    ∷ given (one (store 0 3 2 (bulk 5 141 50 10 1 4 0 1200))) (text "refused 9 1\n")  -- "14.1 refused 9"
+    ∷ given (one (store 0 3 2 (bulk 5 141 50 10 1 4 0 1200))) [] (text "refused 9 1\n")  -- "14.1 refused 9"
     ∷ dust (store 0 4 2 (bulk 1 30 5 1 2 0 0 100)) " 5.165597 0.2340000"  -- G, K6 missing
     ∷ dust (store 0 5 2 (air 500 2000 9500 1000)) " 0.180000 0.0500000"  -- H
-    ∷ given (head 3 0 1 (two 0) ++ store 2 5 2 (air 1 1 0 111) ++ store 0 5 2 (air 1 1 0 111)) (sheet 2908 " 0.000001 0.0000020" 0 2)  -- I
+    ∷ given (head 3 0 1 (two 0) ++ store 2 5 2 (air 1 1 0 111) ++ store 0 5 2 (air 1 1 0 111)) [] (sheet 2908 " 0.000001 0.0000020" 0 2)  -- I
     ∷ dust (store 0 5 2 (air 1 1 0 111)) " 0.000000 0.0000010"  -- "one alone 0.000000"
     ∷ dust (store 0 4 2 (bulk 6 20 110 501 7 0 100 5)) " 0.000001 0.0000001"  -- J, 5 m²
     ∷ dust (store 0 4 2 (bulk 6 20 110 501 7 0 100 4)) " 0.000001 0.0000000"  -- J, 4 m²
-    ∷ warmed (two 51) " 0.024000 0.0177778"  -- K, 5.1: 3 minutes
-    ∷ warmed (two 50) " 0.028800 0.0222222"  -- 5.0: 4
-    ∷ warmed (below 50) " 0.028800 0.0222222"  -- -5.0: 4
-    ∷ warmed (below 51) " 0.057600 0.0488889"  -- -5.1: 10
-    ∷ warmed (below 100) " 0.057600 0.0488889"  -- -10.0: 10
-    ∷ warmed (below 101) " 0.081600 0.0711111"  -- -10.1: 15
     ∷ []
+
+-- K: "5.1 → 3, 5.0 → 4, -5.0 → 4, -5.1 → 10, -10.0 → 10, -10.1 → 15"
+unfoldable pub bands : List Row
+bands =
+    car 0 (two 51) (whole 3) " 0.024000 0.0177778"
+    ∷ car 0 (two 50) (whole 4) " 0.028800 0.0222222"
+    ∷ car 0 (below 50) (whole 4) " 0.028800 0.0222222"
+    ∷ car 0 (below 51) (whole 10) " 0.057600 0.0488889"
+    ∷ car 0 (below 100) (whole 10) " 0.057600 0.0488889"
+    ∷ car 0 (below 101) (whole 15) " 0.081600 0.0711111"
+    ∷ []
+
+-- THE TABLE of the starred rows, A to K
+abbrev pub surveyed : List Row
+surveyed = yards ++ records ++ bands
+
+-- a listing of an answer in a lent buffer of n bytes, and B's: one byte too short, as long, and longer
+abbrev lentOf : Answer → ℕ → Listed
+lentOf a n = listed a (replicate n 7)
+
+pub record LentOfB (a : Answer) : Type 0 where
+  pub short : lentOf a 267 ≡ record { answer = refusal 13 0; length = 0; buffer = replicate 267 7 }
+  pub just : lentOf a 268 ≡ record { answer = a; length = 268; buffer = text listingOfB }
+  pub longer : lentOf a 270 ≡ record { answer = a; length = 268; buffer = text listingOfB ++ (7 ∷ 7 ∷ []) }
+
+-- B's answer: only the code 0337 has figures
+unfoldable pub answerOfB : Answer
+answerOfB = record {
+  number = 0;
+  slot = 0;
+  annual = map (λ (c : ℕ). if_then_else (eqb c 337) 24000 0) codes;
+  peak = map (λ (c : ℕ). if_then_else (eqb c 337) 177778 0) codes;
+  counts = record { groups = 1; stores = 0 };
+}
 
 -- ---- not of 01's examples: a file for each number of its table of questions, and for each way to come to it
 abbrev no : List ℕ → String → Row
-no f t = given f (text t)
+no f t = given f [] (text t)
 
 unfoldable pub refusals : List Row
 refusals =
@@ -137,15 +194,59 @@ refusals =
     ∷ no (head 1 1 0 (two 0)) "refused 6 0\n"  -- at the header, which holds the link
     ∷ no (head 2 0 1 (two 0) ++ store 2 5 2 (air 1 1 0 1)) "refused 6 1\n"
     ∷ no (head 2 0 1 (two 0) ++ store 1 5 2 (air 1 1 0 1)) "refused 7 1\n"  -- a chain that comes back
-    ∷ no (head 8 1 1 (two 0) ++ group 0 0 2 ++ pollutants 0 0) "refused 7 1\n"  -- a group that the store chain names
-    ∷ no (head 8 1 0 (two 0) ++ group 2 0 2 ++ pollutants 0 0) "refused 8 2\n"  -- a coefficient slot that the group chain names is new
     ∷ no (head 2 0 1 (two 0) ++ slot []) "refused 8 1\n"
     ∷ no (head 8 1 0 (two 0) ++ group 0 4 2 ++ pollutants 0 0) "refused 9 1\n"  -- a flag of no meaning
     ∷ no (head 2 1 0 (two 0) ++ group 0 0 0) "refused 10 1\n"  -- a zero link, at the group
     ∷ no (head 3 1 0 (two 0) ++ group 0 0 2 ++ coefficients 0 1 0 0 0) "refused 10 2\n"  -- and at the coefficient slot that holds it
     ∷ no (head 3 1 0 (two 0) ++ group 0 0 2 ++ coefficients 2 1 0 0 0) "refused 10 2\n"  -- a pollutant out of turn
     ∷ no (head 3 1 0 (two 0) ++ group 0 0 3 ++ slot []) "refused 6 1\n"
-    ∷ no (head 8 1 0 (two 0) ++ group 0 0 2 ++ pollutants 0 2) "refused 10 7\n"  -- a seventh
-    ∷ no (head 8 1 0 (two 0) ++ group 0 0 2 ++ pollutants 1 0) "refused 11 1\n"
     ∷ no (head 4 0 1 (two 0) ++ store 0 5 2 (air 1 1 0 1) ++ slot [] ++ slot []) "refused 12 2\n"  -- the lowest
     ∷ []
+
+-- and those that take a whole yard
+unfoldable pub yardRefusals : List Row
+yardRefusals =
+    no (head 8 1 1 (two 0) ++ group 0 0 2 ++ pollutants 0 0) "refused 7 1\n"  -- a group that the store chain names
+    ∷ no (head 8 1 0 (two 0) ++ group 2 0 2 ++ pollutants 0 0) "refused 8 2\n"  -- a coefficient slot that the group chain names is new
+    ∷ no (head 8 1 0 (two 0) ++ group 0 0 2 ++ pollutants 0 2) "refused 10 7\n"  -- a seventh
+    ∷ no (head 8 1 0 (two 0) ++ group 0 0 2 ++ pollutants 1 0) "refused 11 1\n"
+    ∷ []
+
+-- ---- the letter's two desks: two different files, both accepted, that are alike
+pub record Desks (s t : List ℕ) (c d : Chains) : Type 0 where
+  pub ours : verdict s ≡ accepted c
+  pub theirs : verdict t ≡ accepted d
+  pub alike : AlikeFiles (inventoryAt s c) (inventoryAt t d)
+
+-- the coefficients of the six pollutants, from the slot k on
+abbrev sixFrom : ℕ → List ℕ
+sixFrom k =
+    coefficients (k + 1) 1 40000 100000 20000 ++ coefficients (k + 2) 2 0 0 0 ++ coefficients (k + 3) 3 0 0 0 ++ coefficients (k + 4) 4 0 0 0
+    ++ coefficients (k + 5) 5 0 0 0 ++ coefficients 0 6 0 0 0
+
+abbrev chains : List ℕ → List ℕ → Chains
+chains gs ss = record { groups = gs; stores = ss }
+
+-- three groups, two of them alike, with one set of coefficients, before a fan and a heap; and the same in another order, each group with coefficients of its own
+abbrev pub ourDesk : List ℕ
+ourDesk =
+    head 12 1 10 (two 50) ++ group 2 0 4 ++ group 3 1 4 ++ group 0 0 4 ++ sixFrom 4 ++ store 11 5 2 (air 500 2000 9500 1000) ++ store 0 3 2 (bulk 5 20 50 10 1 4 0 1200)
+
+abbrev pub theirDesk : List ℕ
+theirDesk =
+    head 24 17 1 (two 50) ++ store 2 3 2 (bulk 5 20 50 10 1 4 0 1200) ++ store 0 5 2 (air 500 2000 9500 1000) ++ group 0 1 4 ++ sixFrom 4
+    ++ group 3 0 11 ++ sixFrom 11 ++ group 10 0 18 ++ sixFrom 18
+
+abbrev pub TwoDesks : Type 0
+TwoDesks = Desks ourDesk theirDesk (chains (3 ∷ 2 ∷ 1 ∷ []) (11 ∷ 10 ∷ [])) (chains (3 ∷ 10 ∷ 17 ∷ []) (2 ∷ 1 ∷ []))
+
+-- and of store records alone: two alike fans and a heap, the heap between them or last
+abbrev fan : ℕ → List ℕ
+fan next = store next 5 2 (air 500 2000 9500 1000)
+
+abbrev heap : ℕ → List ℕ
+heap next = store next 3 2 (bulk 5 20 50 10 1 4 0 1200)
+
+abbrev pub TwoStores : Type 0
+TwoStores =
+    Desks (head 4 0 1 (two 50) ++ fan 2 ++ heap 3 ++ fan 0) (head 4 0 3 (two 50) ++ heap 0 ++ fan 1 ++ fan 2) (chains [] (3 ∷ 2 ∷ 1 ∷ [])) (chains [] (1 ∷ 2 ∷ 3 ∷ []))

@@ -1,13 +1,13 @@
 -- The figure of terms added one by one is 01's: their fractions added, and rounded once. Each term is a whole number of exact units, so the sum of
 -- the fractions is as many units as the sum has; and one number has one figure, however its fraction is written. Assumes nothing.
 use mathlib.Core.Path.{_≡_, sym, _∙_}
-use Prim.Native.Nat.{ℕ, _+_, _*_, _%_, _^_, _<_, _≤_}
+use Prim.Native.Nat.{ℕ, _+_, _*_, _<_}
 use native.Mathlib.Nat.{mul-div-mul-right}
 use native.Mathlib.Omega.{arith}
 use lib.Dec.{lit<}
 use Rattle.sums.specs.Choice.{sumTo}
 use Rattle.sums.specs.Fraction.{Frac, _over_, whole, _⊙_, _≈_, totalTo, partsOf}
-use Rattle.sums.specs.Figures.{annualDenominator, peakDenominator, unitsIn, nearest}
+use Rattle.sums.specs.Figures.{annualDenominator, peakDenominator, nearest}
 use Rattle.sums.proofs.Fractions.{≈-refl, ≈-⊙, ≈-over, totalTo-parts}
 use Rattle.sums.specs.Exactness.{annualMost, peakMost, sourcesMost, filesMost, Exact, Terms, termUnits, figureOf}
 use Rattle.sums.proofs.Exact.{full-annual, full-peak}

@@ -1,11 +1,10 @@
 -- What a source gives, in exact units: where its tonnes and its rate are so many units, none above what a full file's sums allow, the emission that a
 -- rule answers has exactly them, since a sum drops nothing that small. Assumes nothing.
-use mathlib.Core.Path.{_≡_}
 use Prim.Native.Nat.{ℕ, _+_, _*_, _^_, _<_, _≤_}
 use native.Mathlib.Nat.{le-refl, mul-le-mul}
 use native.Mathlib.Omega.{arith}
 use lib.Dec.{lit<}
-use Rattle.sums.specs.Fraction.{Frac, _over_, _≈_, partsOf}
+use Rattle.sums.specs.Fraction.{Frac, partsOf}
 use Rattle.sums.specs.Figures.{annualDenominator, peakDenominator, tonneParts, gramParts}
 use Rattle.sums.specs.Answer.{Contribution, emitted}
 use Rattle.sums.specs.Exactness.{annualMost, peakMost, Counted, Bounded, Exactly}

@@ -1,6 +1,4 @@
 -- The two tests choose the answer; a group in range has what the emissions ask.
-use borrow.Author.Tests.{not-true, not-false}
-use borrow.Author.Tests.{not-true, not-false}
 use native.Mathlib.Omega.{arith}
 use mathlib.Core.Path.{_∙_, sym}
 use Rattle.sums.proofs.Choices.{yes, no}

@@ -1,6 +1,5 @@
 -- The question is asked where nothing was refused.
 use native.Mathlib.Omega.{arith}
-use mathlib.Core.Path.{sym, _∙_}
 use Rattle.sums.specs.Choice.{if_then_else}
 use Rattle.walk.specs.Told.{asked}
 use Rattle.walk.proofs.questions.ask.Statement.{statement}

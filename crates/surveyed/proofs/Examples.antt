@@ -1,0 +1,42 @@
+-- 01's STARRED ROWS, by one claim over one table; the refusals that take a whole yard; B's answer in a lent buffer; and the letter's two desks. Computed, from the
+-- definitions as a whole. What is lent a buffer goes by B's answer, which is computed once. Assumes nothing.
+use mathlib.Core.Path.{_≡_, refl, subst⁻¹}
+use mathlib.Core.List.{flatMap}
+use Rattle.sums.specs.Choice.{if_then_else, allTo, listTo}
+use Rattle.sums.specs.Fraction.{totalTo}
+use Rattle.sums.specs.Figures.{nearest}
+use Rattle.sums.specs.Table.{upTo}
+use Rattle.vehicle_fields.specs.Fields.{temperaturesInRange, distancesInRange, daysInRange, groupInRange, coefficientsInRange}
+use Rattle.vehicle_fields.specs.SootAndLead.{allZero, zeroWhereDue}
+use Rattle.warmups.specs.Temperatures.{below, place, lowerOf, lowestTo}
+use Rattle.warmups.specs.Warmup.{tableMinutes, minutesAt, periodAt}
+use Rattle.vehicles.specs.Rules.{controlOf, runAndIdle, outGrams, inGrams, monthGrams, annualTonnes, peakGrams, pollutantCode}
+use Rattle.store_records.specs.Fields.{bulkInRange, handlingInRange, standingInRange, aspirationInRange}
+use Rattle.stores.specs.Rules.{k6Of, handlingPeak, standingPeak, bulkTonnes, aspirationPeak, aspirationTonnes}
+use Rattle.slots.specs.Bytes.{bytesFrom, slotOf, i16At, zeroFrom, numberOf}
+use Rattle.slots.specs.Layout.{temperaturesOf, headerOf, daysOf, distancesAt, groupOf, groupGood, groupRead, coefficientsOf, coefficientsGood, coefficientsRead, bulkOf, handlingOf, handlingGood, standingOf, standingGood, aspirationOf, aspirationGood, storeKind, byKind, storeOf, storeGood, readBy, readStore}
+use Rattle.slot_file.specs.Sources.{coefficientSlot, groupAt, storeAt, temperaturesAt, inventoryAt}
+use Rattle.slot_file.specs.Questions.{headAsks, member, linkAsks, coefficientHolder, coefficientAsks, rowsAsks, closingAsks, coefficientSlots, reachedBy, groupAsks, storeAsks, reachAsks, lastAsks}
+use Rattle.slot_file.specs.Walk.{first, chain, storeWalk, groupWalk, verdict}
+use Rattle.slot_file.specs.Figures.{groupContributions, storeContributions, gathered, contributions, exactSum, annualFigure, peakFigure, summed, answered, answer}
+use Rattle.slot_file.specs.Listing.{listed, text, digits, padded, fixed, line, lines, listing, refusalLine, printed}
+
+use Rattle.slot_file.specs.Alike.{sameList, sameCoefficients, sameGroup, sameStore}
+use Rattle.slot_file.specs.Surveyed.{Right, yards, records, bands, surveyed, yardRefusals, fileOfB, LentOfB, answerOfB, TwoDesks}
+use Rattle.slot_file.proofs.Examples.{as-examples}
+
+computed : Right surveyed × Right yardRefusals × (answer fileOfB ≡ answerOfB) × TwoDesks
+unfolding yards records bands yardRefusals answerOfB flatMap sameList sameCoefficients sameGroup sameStore if_then_else allTo listTo totalTo nearest upTo temperaturesInRange distancesInRange daysInRange groupInRange coefficientsInRange allZero below place tableMinutes minutesAt periodAt controlOf runAndIdle outGrams inGrams monthGrams annualTonnes peakGrams lowerOf lowestTo pollutantCode zeroWhereDue bulkInRange handlingInRange standingInRange aspirationInRange k6Of handlingPeak standingPeak bulkTonnes aspirationPeak aspirationTonnes bytesFrom slotOf i16At zeroFrom numberOf temperaturesOf headerOf daysOf distancesAt groupOf groupGood groupRead coefficientsOf coefficientsGood coefficientsRead bulkOf handlingOf handlingGood standingOf standingGood aspirationOf aspirationGood storeKind byKind storeOf storeGood readBy readStore coefficientSlot groupAt storeAt temperaturesAt inventoryAt headAsks member linkAsks coefficientHolder coefficientAsks rowsAsks closingAsks coefficientSlots reachedBy groupAsks storeAsks reachAsks lastAsks first chain storeWalk groupWalk verdict groupContributions storeContributions gathered contributions exactSum annualFigure peakFigure summed answered answer text digits padded fixed line lines listing listed refusalLine printed
+computed = (refl, refl, refl, record { ours = refl; theirs = refl; alike = record { temperatures = refl; groups = refl; stores = refl } })
+
+pub as-surveyed : Right surveyed
+as-surveyed = computed .0
+
+pub as-refused : Right yardRefusals
+as-refused = computed .1
+
+pub as-lent : LentOfB (answer fileOfB)
+as-lent = subst⁻¹ LentOfB (computed .2) (as-examples .2)
+
+pub two-desks : TwoDesks
+two-desks = computed .3

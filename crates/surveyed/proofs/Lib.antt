@@ -1,0 +1,2 @@
+-- The table of examples.
+pub mod Examples

@@ -1,0 +1,1 @@
+// 01's surveyed examples, computed from the definitions: there is nothing to run.
