@@ -20,7 +20,6 @@ use Rattle.slot_file.specs.Questions.{headAsks, member, linkAsks, coeffi
 use Rattle.slot_file.specs.Walk.{first, chain, storeWalk, groupWalk, verdict}
 use Rattle.slot_file.specs.Figures.{groupContributions, storeContributions, gathered, contributions, exactSum, annualFigure, peakFigure, summed, answered, answer}
 use Rattle.slot_file.specs.Listing.{listed, text, digits, padded, fixed, line, lines, listing, refusalLine, printed}
-
 use Rattle.slot_file.specs.Alike.{sameList, sameStore}
 use Rattle.slot_file.specs.Surveyed.{Right, records, refusals, LentOfB, answerOfB, TwoStores}
 

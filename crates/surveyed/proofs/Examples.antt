@@ -20,7 +20,6 @@ use Rattle.slot_file.specs.Questions.{headAsks, member, linkAsks, coefficientHo
 use Rattle.slot_file.specs.Walk.{first, chain, storeWalk, groupWalk, verdict}
 use Rattle.slot_file.specs.Figures.{groupContributions, storeContributions, gathered, contributions, exactSum, annualFigure, peakFigure, summed, answered, answer}
 use Rattle.slot_file.specs.Listing.{listed, text, digits, padded, fixed, line, lines, listing, refusalLine, printed}
-
 use Rattle.slot_file.specs.Alike.{sameList, sameCoefficients, sameGroup, sameStore}
 use Rattle.slot_file.specs.Surveyed.{Right, yards, records, bands, surveyed, yardRefusals, fileOfB, LentOfB, answerOfB, TwoDesks}
 use Rattle.slot_file.proofs.Examples.{as-examples}
