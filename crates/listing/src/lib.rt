@@ -11,17 +11,17 @@ use slot_file::Answer;
 // What a listing into a lent buffer answers: the answer itself, or refusal 13, and how many bytes were written.
 pub struct Listing {
     pub answer: Answer,
-    pub length: usize,
+    pub written: usize,
 }
 
 // The listing from byte 0 of the buffer, and its length. An answer that is a refusal stays as it is, and a buffer that is too short gives refusal 13; neither writes a byte.
 fn list_answer(a: Answer, buffer: &mut [u8]) -> Listing
-    ensures { λ r. ⌜ record { answer = r .answer; length = r .length; buffer = now (buffer .exit) } ≡ listed a (now (buffer .entry)) ⌝ }
+    ensures { λ r. ⌜ record { answer = r .answer; written = r .written; buffer = now (buffer .exit) } ≡ listed a (now (buffer .entry)) ⌝ }
 {
     if a.number != 0 {
         return Listing {
             answer: a,
-            length: 0,
+            written: 0,
         };
     }
     let mut text = [0; LISTING_ROOM];
@@ -29,7 +29,7 @@ fn list_answer(a: Answer, buffer: &mut [u8]) -> Listing
     if buffer.len() < length {
         return Listing {
             answer: Answer::refusal(13, 0),
-            length: 0,
+            written: 0,
         };
     }
     bytes::copy(&text[..length], buffer);
@@ -48,7 +48,7 @@ fn print_answer(a: Answer, out: &mut [u8; LISTING_ROOM]) -> usize
 
 // The listing of a file in a lent buffer, or its refusal.
 pub fn list(file: &[u8], buffer: &mut [u8]) -> Listing
-    ensures { λ r. ⌜ record { answer = r .answer; length = r .length; buffer = now (buffer .exit) } ≡ listed (answer (now (file .entry))) (now (buffer .entry)) ⌝ }
+    ensures { λ r. ⌜ record { answer = r .answer; written = r .written; buffer = now (buffer .exit) } ≡ listed (answer (now (file .entry))) (now (buffer .entry)) ⌝ }
 {
     list_answer(walk::answer(file), buffer)
 }

@@ -12,9 +12,9 @@ use Rattle.sums.specs.Fraction.{Frac, _over_, whole, _⊙_, _≈_, partsOf}
 use Rattle.sums.specs.Figures.{nearest, tonneParts, gramParts}
 use Rattle.sums.proofs.Figure.{nearest-same}
 use Rattle.sums.specs.Answer.{Contribution}
-use Rattle.slots.specs.declared.store.Store.{Store}
+use Rattle.slots.specs.declared.store.StoreRecord.{StoreRecord}
 use Rattle.slot_file.specs.Questions.{accepted}
-use Rattle.slot_file.specs.Walk.{verdict}
+use Rattle.slot_file.specs.Walk.{outcome}
 use Rattle.slot_file.specs.Sources.{VehicleGroup, groupAt, storeAt, Chains, Inventory, inventoryAt}
 use Rattle.slot_file.specs.Figures.{groupContributions, storeContributions, contributions, exactSum, annualFigure, peakFigure, countsOf, summed, answered, answer}
 use Rattle.slot_file.specs.Codes.{codes}
@@ -33,7 +33,7 @@ module _ (v w : Inventory) (e : AlikeFiles v w) where
         total-contributions w f,
         ap (λ (ts : List ℤ). total (λ (g : VehicleGroup). total f (groupContributions ts g)) (v .groups)) (e .temperatures),
         alike-total sameGroup group-sound group-same (λ (g : VehicleGroup). total f (groupContributions (w .temperatures) g)) (v .groups) (w .groups) (e .groups),
-        alike-total sameStore store-sound store-same (λ (r : Store). total f (storeContributions r)) (v .stores) (w .stores) (e .stores),
+        alike-total sameStore store-sound store-same (λ (r : StoreRecord). total f (storeContributions r)) (v .stores) (w .stores) (e .stores),
       )
 
   figure-alike : (f : Contribution → Frac) (k : ℕ) → 0 < k → ((x : Contribution) → Units x → f x ≈ (partsOf k (f x) over k)) → (u c : ℕ)
@@ -53,7 +53,7 @@ module _ (v w : Inventory) (e : AlikeFiles v w) where
       λ i. record { number = 0; slot = 0; annual = map (λ (c : ℕ). a c i) codes; peak = map (λ (c : ℕ). p c i) codes; counts = record { groups = n i; stores = m i } }
 
 -- the answer to an accepted file
-pub accepted-answer : (s : List ℕ) (c : Chains) → verdict s ≡ accepted c → answer s ≡ summed (inventoryAt s c)
+pub accepted-answer : (s : List ℕ) (c : Chains) → outcome s ≡ accepted c → answer s ≡ summed (inventoryAt s c)
 unfolding answer answered
 accepted-answer s c e = rw e
 

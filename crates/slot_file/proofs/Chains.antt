@@ -1,5 +1,5 @@
--- A walk along a chain, both ways: the verdict of the walk is the refusal at the first question that is answered no, or what follows the chain's end; and
--- a chain that is reached determines the verdict. The walk's own step, one link, is all that is asked of it. Assumes nothing.
+-- A walk along a chain, both ways: the outcome of the walk is the refusal at the first question that is answered no, or what follows the chain's end; and
+-- a chain that is reached determines the outcome. The walk's own step, one link, is all that is asked of it. Assumes nothing.
 use Prim.Native.Nat.{ℕ, zero, suc, _+_, _-_, _<_}
 use mathlib.Core.Path.{_≡_, refl, sym, ap, subst, _∙_}
 use mathlib.Core.List.{List, [], _∷_}
@@ -11,7 +11,7 @@ use native.Mathlib.Decide.{decLt}
 use borrow.Author.Tests.{eqb-true, eqb-false}
 use Rattle.slots.specs.Bytes.{slotOf}
 use Rattle.slots.specs.Layout.{nextOf}
-use Rattle.slot_file.specs.Questions.{mostSlots, Question, Verdict, refused}
+use Rattle.slot_file.specs.Questions.{mostSlots, Question, Outcome, refused}
 use Rattle.slot_file.specs.Walk.{first}
 use Rattle.slot_file.specs.Meaning.{FirstNo, Chain, Reached}
 use Rattle.slot_file.proofs.Asking.{first-yes, first-no, first-both}
@@ -41,23 +41,23 @@ module _ (s : List ℕ) (from : ℕ) where
         | no l ↦ elim (decLt (length c) (length b)) [ yes m ↦ absurd (no-longer c b 0 q p m) | no m ↦ same-chain b c 0 0 (omega arith) p q .0 ]
       ]
 
--- ---- `whole` is the walk's verdict, and `end b` the verdict where the chain ends after b
-pub record Walks (asks : List ℕ → ℕ → List Question) (s : List ℕ) (from : ℕ) (whole : Verdict) (end : List ℕ → Verdict) : Type 1 where
+-- ---- `whole` is the walk's outcome, and `end b` the outcome where the chain ends after b
+pub record Walks (asks : List ℕ → ℕ → List Question) (s : List ℕ) (from : ℕ) (whole : Outcome) (end : List ℕ → Outcome) : Type 1 where
   -- what holds of each refusal and of each end holds of the whole
-  pub both : (P : Verdict → Type 0)
+  pub both : (P : Outcome → Type 0)
       → ((b : List ℕ) (k : ℕ) → Reached asks s from b k → (k ≡ 0 → ⊥) → (n j : ℕ) → FirstNo (asks b k) n j → P (refused n j))
       → ((b : List ℕ) → Reached asks s from b 0 → P (end b))
       → P whole
   pub at-no : (b : List ℕ) (k : ℕ) → Reached asks s from b k → (k ≡ 0 → ⊥) → (n j : ℕ) → FirstNo (asks b k) n j → whole ≡ refused n j
   pub at-end : (b : List ℕ) → Reached asks s from b 0 → whole ≡ end b
 
--- out n b link is the verdict with n links left, from `link` on, after the slots of b
-module _ (asks : List ℕ → ℕ → List Question) (s : List ℕ) (from : ℕ) (out : ℕ → List ℕ → ℕ → Verdict) (end : List ℕ → Verdict)
+-- out n b link is the outcome with n links left, from `link` on, after the slots of b
+module _ (asks : List ℕ → ℕ → List Question) (s : List ℕ) (from : ℕ) (out : ℕ → List ℕ → ℕ → Outcome) (end : List ℕ → Outcome)
     (turn : (n : ℕ) (b : List ℕ) (k : ℕ) → (k ≡ 0 → ⊥) → out (suc n) b k ≡ first (asks b k) (out n (k ∷ b) (nextOf (slotOf s k))))
     (stop : (n : ℕ) (b : List ℕ) → out (suc n) b 0 ≡ end b)
     (short : (b : List ℕ) (link : ℕ) → Reached asks s from b link → length b < mostSlots)
   where
-    walk-all : (P : Verdict → Type 0)
+    walk-all : (P : Outcome → Type 0)
         → ((b : List ℕ) (k : ℕ) → Reached asks s from b k → (k ≡ 0 → ⊥) → (n j : ℕ) → FirstNo (asks b k) n j → P (refused n j))
         → ((b : List ℕ) → Reached asks s from b 0 → P (end b))
         → (n : ℕ) (b : List ℕ) (link : ℕ) → n + length b ≡ mostSlots → Reached asks s from b link → P (out n b link)

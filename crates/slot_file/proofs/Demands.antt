@@ -1,4 +1,4 @@
--- THE LETTER'S THREE DEMANDS, of the definitions that `walk::check` and `walk::answer` are proved to equal. By what a verdict means (`Verdicts`), by the range of
+-- THE LETTER'S THREE DEMANDS, of the definitions that `walk::check` and `walk::answer` are proved to equal. By what a outcome means (`Outcomes`), by the range of
 -- each source that passed (`Ranged`), and by what two alike files have in common (`Agreement`). Assumes nothing.
 use Prim.Native.Nat.{ℕ, zero, suc, _<_}
 use native.Mathlib.Nat.{not-suc-le-zero, le-of-suc-le-suc}
@@ -17,35 +17,35 @@ use Rattle.stores.proofs.Exactly.{handling-emitted, handling-exactly, standing-
 use Rattle.vehicle_fields.specs.Fields.{noCoefficients}
 use Rattle.vehicles.specs.Rules.{emissionCount, emissionOf, emissionsOf}
 use Rattle.vehicles.proofs.Bounds.{group-exactly}
-use Rattle.slots.specs.declared.store.Store.{Store}
-use Rattle.slots.specs.declared.store.Store.the-variants.{Handling, Standing, Aspiration}
+use Rattle.slots.specs.declared.store.StoreRecord.{StoreRecord}
+use Rattle.slots.specs.declared.store.StoreRecord.the-variants.{Handling, Standing, Aspiration}
 use Rattle.slot_file.specs.Sources.{groupAt, storeAt, temperaturesAt, Chains, inventoryAt}
-use Rattle.slot_file.specs.Questions.{headAsks, groupsSoFar, storesSoFar, groupAsks, storeAsks, Verdict, accepted, refused}
-use Rattle.slot_file.specs.Walk.{verdict, told}
+use Rattle.slot_file.specs.Questions.{headAsks, groupsSoFar, storesSoFar, groupAsks, storeAsks, Outcome, accepted, refused}
+use Rattle.slot_file.specs.Walk.{outcome, told}
 use Rattle.slot_file.specs.Meaning.{AllYes, Good, Accepts, Refuses}
 use Rattle.slot_file.specs.Codes.{codes, codeCount}
 use Rattle.slot_file.specs.Figures.{contributions, annualFigure, peakFigure, summed, answer, refusal}
 use Rattle.slot_file.specs.Alike.{AlikeFiles}
 use Rattle.slot_file.specs.Demands.{Checked, GroupGives, StoreGives, Each, Worked, FiguresRounded}
-use Rattle.slot_file.proofs.Verdicts.{exactly-when}
+use Rattle.slot_file.proofs.Outcomes.{exactly-when}
 use Rattle.slot_file.proofs.Numbers.{refused-answer}
 use Rattle.slot_file.proofs.Ranged.{all-in-range, zero-where-due, group-answered, storeInRange, store-answered}
 use Rattle.slot_file.proofs.Units.{Units, exact-parts}
 use Rattle.slot_file.proofs.Agreement.{accepted-answer, same-answer, summed-counts}
 
 -- DEMAND 1
-pub accepted-exactly : (s : List ℕ) → Checked s (told (verdict s))
+pub accepted-exactly : (s : List ℕ) → Checked s (told (outcome s))
 accepted-exactly s = record {
-  accepted = (yes (verdict s) refl, λ a. rw (exactly-when s (accepted (a .0)) .1 (a .1)) refl);
-  refused = λ z. no (verdict s) refl z .0;
-  no-figures = λ z. no (verdict s) refl z .1;
+  accepted-when = (yes (outcome s) refl, λ a. rw (exactly-when s (accepted (a .0)) .1 (a .1)) refl);
+  refused-by = λ z. no (outcome s) refl z .0;
+  no-figures = λ z. no (outcome s) refl z .1;
 }
   where
-    yes : (v : Verdict) → verdict s ≡ v → told v .number ≡ 0 → (c : Chains) × Accepts s c
+    yes : (v : Outcome) → outcome s ≡ v → told v .number ≡ 0 → (c : Chains) × Accepts s c
     yes (accepted c) e z = (c, exactly-when s (accepted c) .0 e)
     yes (refused n k) e z = absurd (omega (arith, refused-answer s n k e .1, z))
 
-    no : (v : Verdict) → verdict s ≡ v → (told v .number ≡ 0 → ⊥) → Refuses s (told v .number) (told v .slot) × (answer s ≡ refusal (told v .number) (told v .slot))
+    no : (v : Outcome) → outcome s ≡ v → (told v .number ≡ 0 → ⊥) → Refuses s (told v .number) (told v .slot) × (answer s ≡ refusal (told v .number) (told v .slot))
     no (accepted c) e z = absurd (z refl)
     no (refused n k) e z = (exactly-when s (refused n k) .0 e, refused-answer s n k e .0)
 
@@ -54,7 +54,7 @@ each-onto : {A B : Type 0} (P : B → Type 0) (f : A → B) (l m : List A) → E
 each-onto P f [] m h k = k
 each-onto P f (x ∷ l) m h k = each-onto P f l (x ∷ m) (h .1) (h .0, k)
 
-store-gives : (r : Store) → storeInRange r ≡ true → StoreGives r
+store-gives : (r : StoreRecord) → storeInRange r ≡ true → StoreGives r
 store-gives (Handling h) e = record { code = ap (λ (x : Emission). x .code) (handling-emitted h e); exactly = handling-exactly h e }
 store-gives (Standing s) e = record { code = ap (λ (x : Emission). x .code) (standing-emitted s e); exactly = standing-exactly s e }
 store-gives (Aspiration a) e = record { code = ap (λ (x : Emission). x .code) (aspiration-emitted a e); exactly = aspiration-exactly a e }
@@ -84,7 +84,7 @@ map-at f [] i h = absurd (not-suc-le-zero h)
 map-at f (x ∷ l) zero h = refl
 map-at f (x ∷ l) (suc i) h = map-at f l i (le-of-suc-le-suc h)
 
-module _ (s : List ℕ) (c : Chains) (v : verdict s ≡ accepted c) where
+module _ (s : List ℕ) (c : Chains) (v : outcome s ≡ accepted c) where
   -- DEMAND 2
   pub each-source : Worked s c (inventoryAt s c)
   unfolding inventoryAt
@@ -111,5 +111,5 @@ module _ (s : List ℕ) (c : Chains) (v : verdict s ≡ accepted c) where
 -- DEMAND 3: "Every two such files alike in the twelve temperatures, month by month, in their vehicle groups, each with its own coefficients for the six pollutants,
 -- and in their store records, repeats included, get the same answers: every annual figure, every peak figure and both counts. This holds whatever order either file
 -- has its slots and chains in, and however either shares its coefficient slots": the two accepted files are s and t, with any chains
-pub same-answers : (s t : List ℕ) (c d : Chains) → verdict s ≡ accepted c → verdict t ≡ accepted d → AlikeFiles (inventoryAt s c) (inventoryAt t d) → answer s ≡ answer t
+pub same-answers : (s t : List ℕ) (c d : Chains) → outcome s ≡ accepted c → outcome t ≡ accepted d → AlikeFiles (inventoryAt s c) (inventoryAt t d) → answer s ≡ answer t
 same-answers s t c d p q a = accepted-answer s c p ∙ same-answer (inventoryAt s c) (inventoryAt t d) a ∙ sym (accepted-answer t d q)

@@ -4,7 +4,7 @@ pub mod SixRows
 pub mod Ranged
 pub mod Marks
 pub mod Chains
-pub mod Verdicts
+pub mod Outcomes
 pub mod Unreached
 pub mod Numbers
 pub mod Bag

@@ -7,10 +7,10 @@ use mathlib.Core.List.{List, [], _∷_, _++_}
 use Rattle.vehicle_fields.specs.Fields.{pollutantCount}
 use Rattle.slot_file.specs.Sources.{Chains}
 use Rattle.slot_file.specs.Questions.{lastNumber, Question, headAsks, groupsSoFar, storesSoFar, linkAsks, coefficientAsks, rowsAsks, closingAsks, groupLinkAsks, groupAsks, storeAsks, reachAsks, lastAsks, refused}
-use Rattle.slot_file.specs.Walk.{verdict}
+use Rattle.slot_file.specs.Walk.{outcome}
 use Rattle.slot_file.specs.Meaning.{FirstNo, here, later, Refuses, at-head, at-group, at-store, at-last}
 use Rattle.slot_file.specs.Figures.{refusal, answered, answer}
-use Rattle.slot_file.proofs.Verdicts.{exactly-when}
+use Rattle.slot_file.proofs.Outcomes.{exactly-when}
 
 -- each question has a number from 1 to the last
 abbrev Numbered : List Question → Type 0
@@ -73,6 +73,6 @@ refused-number s n k (at-store c j h v w z f) = first-numbered _ n k (store-numb
 refused-number s n k (at-last c h v w f) = first-numbered _ n k (last-numbered s c) f
 
 -- the answer of a refused file has its number, from 1 to the last, and its slot, and all else zero
-pub refused-answer : (s : List ℕ) (n k : ℕ) → verdict s ≡ refused n k → (answer s ≡ refusal n k) × (1 ≤ n) × (n ≤ lastNumber)
+pub refused-answer : (s : List ℕ) (n k : ℕ) → outcome s ≡ refused n k → (answer s ≡ refusal n k) × (1 ≤ n) × (n ≤ lastNumber)
 unfolding answer answered
 refused-answer s n k e = let r = refused-number s n k (exactly-when s (refused n k) .0 e) in (rw e, r .0, r .1)

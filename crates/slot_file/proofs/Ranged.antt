@@ -14,8 +14,8 @@ use Rattle.vehicle_fields.specs.SootAndLead.{zeroWhereDue}
 use Rattle.vehicles.specs.Rules.{emissionsOf, groupAnswer}
 use Rattle.slots.specs.Bytes.{byteAt, zeroFrom, slotOf}
 use Rattle.slots.specs.Layout.{groupOf, groupGood, groupRead, coefficientsOf, coefficientsGood, coefficientsRead, handlingOf, handlingGood, standingOf, standingGood, aspirationOf, aspirationGood, byKind, storeOf, storeGood, readBy, readStore}
-use Rattle.slots.specs.declared.store.Store.{Store}
-use Rattle.slots.specs.declared.store.Store.the-variants.{Handling, Standing, Aspiration}
+use Rattle.slots.specs.declared.store.StoreRecord.{StoreRecord}
+use Rattle.slots.specs.declared.store.StoreRecord.the-variants.{Handling, Standing, Aspiration}
 use Rattle.slots.specs.declared.store.StoreRead.the-variants.{Record}
 use Rattle.slot_file.specs.Sources.{coefficientSlot, groupAt, storeAt, temperaturesAt, Chains}
 use Rattle.slot_file.specs.Questions.{Question, headAsks, linkAsks, coefficientAsks, rowsAsks, closingAsks, groupLinkAsks, groupAsks, storeAsks}
@@ -61,7 +61,7 @@ module _ (s : List ℕ) (c : Chains) (g : ℕ) (a : AllYes (groupAsks s c g)) wh
   group-answered h = simp (all-in-range h, zero-where-due)
 
 -- a store record in range
-abbrev pub storeInRange : Store → Bool
+abbrev pub storeInRange : StoreRecord → Bool
 storeInRange (Handling h) = handlingInRange h
 storeInRange (Standing r) = standingInRange r
 storeInRange (Aspiration r) = aspirationInRange r

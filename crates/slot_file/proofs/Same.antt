@@ -14,10 +14,10 @@ use Rattle.vehicle_fields.specs.declared.group.Group.{Group}
 use Rattle.vehicle_fields.specs.declared.group.Coefficients.{Coefficients}
 use Rattle.store_records.specs.declared.records.Bulk.{Bulk}
 use Rattle.slots.specs.Layout.{storeFields}
-use Rattle.slots.specs.declared.store.Store.{Store}
-use Rattle.slots.specs.declared.store.Store.the-variants.{Handling, Standing, Aspiration}
+use Rattle.slots.specs.declared.store.StoreRecord.{StoreRecord}
+use Rattle.slots.specs.declared.store.StoreRecord.the-variants.{Handling, Standing, Aspiration}
 use Rattle.slot_file.specs.Sources.{VehicleGroup}
-use Rattle.slot_file.specs.Alike.{sameBool, sameList, sameMinute, sameKilometre, coefficientTests, sameCoefficients, groupFields, groupTests, sameGroup, sameStore}
+use Rattle.slot_file.specs.Alike.{sameBool, sameList, sameMinute, sameKilometre, sameCoefficientTests, sameCoefficients, groupFields, sameGroupTests, sameGroup, sameStore}
 
 bool-sound : (a b : Bool) → sameBool a b ≡ true → a ≡ b
 bool-sound true true e = refl
@@ -55,7 +55,7 @@ kilometre-sound x y e = let p = eqb-true (x .0) (y .0) e in λ i. record { 0 = p
 coefficients-sound : (x y : Coefficients) → sameCoefficients x y ≡ true → x ≡ y
 unfolding sameCoefficients
 coefficients-sound x y e =
-    let t = nth (coefficientTests x y) e in
+    let t = nth (sameCoefficientTests x y) e in
     let w = list-sound sameMinute minute-sound (x .warmup) (y .warmup) (t 0) in
     let r = list-sound sameKilometre kilometre-sound (x .run) (y .run) (t 1) in
     let d = minute-sound (x .idle) (y .idle) (t 2) in
@@ -86,7 +86,7 @@ groupFrom l controlled heated days = record {
 pub group-sound : (x y : VehicleGroup) → sameGroup x y ≡ true → x ≡ y
 unfolding sameGroup groupFrom
 group-sound x y e =
-    let t = nth (groupTests x y) e in
+    let t = nth (sameGroupTests x y) e in
     let n = list-sound eqb eqb-true (groupFields (x .group)) (groupFields (y .group)) (t 0) in
     let c = bool-sound (x .group .controlled) (y .group .controlled) (t 1) in
     let h = bool-sound (x .group .heated) (y .group .heated) (t 2) in
@@ -117,7 +117,7 @@ bulkFrom l = record {
   amount = getD l 9 0;
 }
 
-pub store-sound : (x y : Store) → sameStore x y ≡ true → x ≡ y
+pub store-sound : (x y : StoreRecord) → sameStore x y ≡ true → x ≡ y
 unfolding sameStore sameList bulkFrom
 store-sound (Handling h) (Handling g) e =
     let p = list-sound eqb eqb-true (storeFields (Handling h)) (storeFields (Handling g)) e in
@@ -142,6 +142,6 @@ store-sound (Aspiration h) (Aspiration g) e =
       hours = getD (p i) 6 0;
     })
 
-pub store-same : (x : Store) → sameStore x x ≡ true
+pub store-same : (x : StoreRecord) → sameStore x x ≡ true
 unfolding sameStore
 store-same x = list-same eqb number-same (storeFields x)

@@ -18,8 +18,8 @@ use Rattle.vehicles.specs.Rules.{emissionCount}
 use Rattle.vehicles.proofs.Paper.{counted}
 use Rattle.stores.proofs.Paper.{handling-counted, standing-counted, aspiration-counted}
 use Rattle.sums.specs.Answer.{Contribution}
-use Rattle.slots.specs.declared.store.Store.{Store}
-use Rattle.slots.specs.declared.store.Store.the-variants.{Handling, Standing, Aspiration}
+use Rattle.slots.specs.declared.store.StoreRecord.{StoreRecord}
+use Rattle.slots.specs.declared.store.StoreRecord.the-variants.{Handling, Standing, Aspiration}
 use Rattle.slot_file.specs.Sources.{VehicleGroup, Inventory}
 use Rattle.slot_file.specs.Figures.{groupContributions, storeContributions, gathered, contributions, exactSum}
 use Rattle.slot_file.specs.Alike.{total}
@@ -53,7 +53,7 @@ group-units : (ts : List ℤ) (v : VehicleGroup) → Each Units (groupContributi
 unfolding groupContributions
 group-units ts v = each-listTo Units emissionCount _ (λ (p : ℕ). units _ (counted (v .group) ts (getD (v .coefficients) p noCoefficients) p))
 
-store-units : (r : Store) → Each Units (storeContributions r)
+store-units : (r : StoreRecord) → Each Units (storeContributions r)
 unfolding storeContributions
 store-units (Handling h) = (units _ (handling-counted h), tt)
 store-units (Standing s) = (units _ (standing-counted s), tt)
@@ -81,7 +81,7 @@ module _ (v : Inventory) where
 
   -- a total over all contributions is one over the groups and one over the store records
   pub total-contributions : (f : Contribution → ℕ) →
-      total f (contributions v) ≡ total (λ (g : VehicleGroup). total f (groupContributions (v .temperatures) g)) (v .groups) + total (λ (r : Store). total f (storeContributions r)) (v .stores)
+      total f (contributions v) ≡ total (λ (g : VehicleGroup). total f (groupContributions (v .temperatures) g)) (v .groups) + total (λ (r : StoreRecord). total f (storeContributions r)) (v .stores)
   unfolding contributions
   total-contributions f =
       omega (

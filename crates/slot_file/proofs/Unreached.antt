@@ -30,7 +30,7 @@ record Lowest (n i : ℕ) (l : List ℕ) (m k : ℕ) : Type 0 where
   lower : (j : ℕ) → i ≤ j → j < k → member j l ≡ true
 
 -- a first no is the head, or in the tail
-split : {P : Type 0} (q : Question) (qs : List Question) (n k : ℕ) → FirstNo (q ∷ qs) n k → (q .answer ≡ false → n ≡ q .number → k ≡ q .slot → P) → (q .answer ≡ true → FirstNo qs n k → P) → P
+split : {P : Type 0} (q : Question) (qs : List Question) (n k : ℕ) → FirstNo (q ∷ qs) n k → (q .yes ≡ false → n ≡ q .number → k ≡ q .slot → P) → (q .yes ≡ true → FirstNo qs n k → P) → P
 split q qs n k (here _ _ e) f g = f e refl refl
 split q qs n k (later _ _ e h) f g = g e h
 

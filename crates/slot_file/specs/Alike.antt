@@ -11,7 +11,7 @@ use Rattle.vehicle_fields.specs.declared.units.PerKilometre.{PerKilometre}
 use Rattle.vehicle_fields.specs.declared.group.Group.{Group}
 use Rattle.vehicle_fields.specs.declared.group.Coefficients.{Coefficients}
 use Rattle.slots.specs.Layout.{storeFields}
-use Rattle.slots.specs.declared.store.Store.{Store}
+use Rattle.slots.specs.declared.store.StoreRecord.{StoreRecord}
 use Rattle.slot_file.specs.Sources.{VehicleGroup, Inventory}
 
 abbrev pub sameBool : Bool → Bool → Bool
@@ -38,25 +38,25 @@ abbrev pub sameKilometre : PerKilometre → PerKilometre → Bool
 sameKilometre x y = eqb (x .0) (y .0)
 
 -- "the same seven coefficients": three of warm-up, three of run, and idle
-abbrev pub coefficientTests : Coefficients → Coefficients → List Bool
-coefficientTests x y = sameList sameMinute (x .warmup) (y .warmup) ∷ sameList sameKilometre (x .run) (y .run) ∷ sameMinute (x .idle) (y .idle) ∷ []
+abbrev pub sameCoefficientTests : Coefficients → Coefficients → List Bool
+sameCoefficientTests x y = sameList sameMinute (x .warmup) (y .warmup) ∷ sameList sameKilometre (x .run) (y .run) ∷ sameMinute (x .idle) (y .idle) ∷ []
 
 unfoldable pub sameCoefficients : Coefficients → Coefficients → Bool
-sameCoefficients x y = allOf (coefficientTests x y)
+sameCoefficients x y = allOf (sameCoefficientTests x y)
 
 -- "Two sources are alike when they are of the same kind and equal in every field but the next index and the first coefficient slot; two groups must also have
 -- the same seven coefficients for each of the six pollutants"
-abbrev pub groupTests : VehicleGroup → VehicleGroup → List Bool
-groupTests x y =
+abbrev pub sameGroupTests : VehicleGroup → VehicleGroup → List Bool
+sameGroupTests x y =
     sameList eqb (groupFields (x .group)) (groupFields (y .group)) ∷ sameBool (x .group .controlled) (y .group .controlled)
     ∷ sameBool (x .group .heated) (y .group .heated) ∷ sameList eqb (x .group .days) (y .group .days)
     ∷ sameList sameCoefficients (x .coefficients) (y .coefficients) ∷ []
 
 unfoldable pub sameGroup : VehicleGroup → VehicleGroup → Bool
-sameGroup x y = allOf (groupTests x y)
+sameGroup x y = allOf (sameGroupTests x y)
 
 -- of a store record, its kind and every field
-unfoldable pub sameStore : Store → Store → Bool
+unfoldable pub sameStore : StoreRecord → StoreRecord → Bool
 sameStore x y = sameList eqb (storeFields x) (storeFields y)
 
 abbrev pub bit : Bool → ℕ

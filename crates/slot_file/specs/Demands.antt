@@ -11,12 +11,12 @@ use Rattle.sums.specs.Figures.{Rounded}
 use Rattle.sums.specs.Answer.{Contribution, noEmission}
 use Rattle.sums.specs.Exactness.{Exactly}
 use Rattle.sums.specs.declared.answer.Emission.{Emission}
-use Rattle.sums.specs.declared.answer.Verdict as answer
+use Rattle.sums.specs.declared.answer.Verdict.{Verdict}
 use Rattle.vehicle_fields.specs.Fields.{noCoefficients}
 use Rattle.vehicles.specs.Rules.{emissionCount, contributionOf, groupAnswer}
 use Rattle.stores.specs.Rules.{handlingContribution, standingContribution, aspirationContribution, handlingAnswer, standingAnswer, aspirationAnswer}
-use Rattle.slots.specs.declared.store.Store.{Store}
-use Rattle.slots.specs.declared.store.Store.the-variants.{Handling, Standing, Aspiration}
+use Rattle.slots.specs.declared.store.StoreRecord.{StoreRecord}
+use Rattle.slots.specs.declared.store.StoreRecord.the-variants.{Handling, Standing, Aspiration}
 use Rattle.slot_file.specs.Sources.{VehicleGroup, Chains, Inventory}
 use Rattle.slot_file.specs.Questions.{slotCount, member, reachedOf}
 use Rattle.slot_file.specs.Meaning.{Accepts, Refuses}
@@ -25,9 +25,9 @@ use Rattle.slot_file.specs.Figures.{exactSum, countsOf, refusal, answer}
 
 -- DEMAND 1: "either accepted or refused by number and slot. It is accepted exactly when every question in document 01 is answered yes"; "A refusal gives no
 -- figures": of a check's number and slot
-pub record Checked (s : List ℕ) (v : answer.Verdict) : Type 0 where
-  pub accepted : (v .number ≡ 0) ↔ ((c : Chains) × Accepts s c)
-  pub refused : (v .number ≡ 0 → ⊥) → Refuses s (v .number) (v .slot)
+pub record Checked (s : List ℕ) (v : Verdict) : Type 0 where
+  pub accepted-when : (v .number ≡ 0) ↔ ((c : Chains) × Accepts s c)
+  pub refused-by : (v .number ≡ 0 → ⊥) → Refuses s (v .number) (v .slot)
   pub no-figures : (v .number ≡ 0 → ⊥) → answer s ≡ refusal (v .number) (v .slot)
 
 -- "the lowest unreached for 12": the slot k of a refusal by question 12, where the chains are c
@@ -49,7 +49,7 @@ GroupGives ts v =
     (p : ℕ) → p < emissionCount
     → Gives (getD (groupAnswer (v .group) ts (v .coefficients) .emissions) p noEmission) (contributionOf (v .group) ts (getD (v .coefficients) p noCoefficients) p)
 
-abbrev pub StoreGives : Store → Type 0
+abbrev pub StoreGives : StoreRecord → Type 0
 StoreGives (Handling h) = Gives (handlingAnswer h .emission) (handlingContribution h)
 StoreGives (Standing s) = Gives (standingAnswer s .emission) (standingContribution s)
 StoreGives (Aspiration a) = Gives (aspirationAnswer a .emission) (aspirationContribution a)

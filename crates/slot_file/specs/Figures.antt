@@ -12,12 +12,12 @@ use Rattle.sums.specs.Answer.{Contribution}
 use Rattle.vehicle_fields.specs.Fields.{noCoefficients}
 use Rattle.vehicles.specs.Rules.{emissionCount, contributionOf}
 use Rattle.stores.specs.Rules.{handlingContribution, standingContribution, aspirationContribution}
-use Rattle.slots.specs.declared.store.Store.{Store}
-use Rattle.slots.specs.declared.store.Store.the-variants.{Handling, Standing, Aspiration}
+use Rattle.slots.specs.declared.store.StoreRecord.{StoreRecord}
+use Rattle.slots.specs.declared.store.StoreRecord.the-variants.{Handling, Standing, Aspiration}
 use Rattle.slot_file.specs.declared.Counts.{Counts}
 use Rattle.slot_file.specs.declared.Answer.{Answer}
-use Rattle.slot_file.specs.Questions.{Verdict, accepted, refused}
-use Rattle.slot_file.specs.Walk.{verdict}
+use Rattle.slot_file.specs.Questions.{Outcome, accepted, refused}
+use Rattle.slot_file.specs.Walk.{outcome}
 use Rattle.slot_file.specs.Sources.{VehicleGroup, Chains, Inventory, inventoryAt}
 use Rattle.slot_file.specs.Codes.{codes}
 
@@ -26,7 +26,7 @@ unfoldable pub groupContributions : List ℤ → VehicleGroup → List Contribut
 groupContributions ts v = listTo emissionCount (λ (p : ℕ). contributionOf (v .group) ts (getD (v .coefficients) p noCoefficients) p)
 
 -- "Store rules": what a store record gives to the code of its dust
-unfoldable pub storeContributions : Store → List Contribution
+unfoldable pub storeContributions : StoreRecord → List Contribution
 storeContributions (Handling h) = handlingContribution h ∷ []
 storeContributions (Standing s) = standingContribution s ∷ []
 storeContributions (Aspiration a) = aspirationContribution a ∷ []
@@ -70,9 +70,9 @@ summed v = record {
 abbrev pub refusal : ℕ → ℕ → Answer
 refusal n k = record { number = n; slot = k; annual = map (λ (c : ℕ). 0) codes; peak = map (λ (c : ℕ). 0) codes; counts = record { groups = 0; stores = 0 } }
 
-unfoldable pub answered : List ℕ → Verdict → Answer
+unfoldable pub answered : List ℕ → Outcome → Answer
 answered s (accepted c) = summed (inventoryAt s c)
 answered s (refused n k) = refusal n k
 
 unfoldable pub answer : List ℕ → Answer
-answer s = answered s (verdict s)
+answer s = answered s (outcome s)

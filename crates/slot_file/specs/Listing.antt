@@ -56,7 +56,7 @@ printed a = if_then_else (eqb (a .number) 0) (listing a) (refusalLine (a .number
 -- a listing into a lent buffer: its answer, its length, and the buffer's bytes after it
 pub record Listed : Type 0 where
   pub answer : Answer
-  pub length : ℕ
+  pub written : ℕ
   pub buffer : List ℕ
 
 -- "Is the lent buffer as long as the listing?", asked last; "A refused listing has length 0 and changes no byte of the buffer. An accepted one writes from byte 0,
@@ -65,6 +65,6 @@ unfoldable pub listed : Answer → List ℕ → Listed
 listed a buffer =
     if_then_else (eqb (a .number) 0)
     (if_then_else (leb (length (listing a)) (length buffer))
-    (record { answer = a; length = length (listing a); buffer = listing a ++ drop (length (listing a)) buffer })
-    (record { answer = refusal 13 0; length = 0; buffer = buffer }))
-    (record { answer = a; length = 0; buffer = buffer })
+    (record { answer = a; written = length (listing a); buffer = listing a ++ drop (length (listing a)) buffer })
+    (record { answer = refusal 13 0; written = 0; buffer = buffer }))
+    (record { answer = a; written = 0; buffer = buffer })

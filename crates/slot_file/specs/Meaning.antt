@@ -1,4 +1,4 @@
--- What a verdict means, in words that know no walk.
+-- What a outcome means, in words that know no walk.
 use Prim.Native.Nat.{ℕ}
 use mathlib.Core.Path.{_≡_}
 use mathlib.Core.Bool.{true, false}
@@ -6,17 +6,17 @@ use mathlib.Core.List.{List, [], _∷_}
 use Rattle.slots.specs.Bytes.{slotOf}
 use Rattle.slots.specs.Layout.{nextOf}
 use Rattle.slot_file.specs.Sources.{headerAt, Chains}
-use Rattle.slot_file.specs.Questions.{Question, headAsks, groupsSoFar, storesSoFar, groupAsks, storeAsks, lastAsks, Verdict, accepted, refused}
+use Rattle.slot_file.specs.Questions.{Question, headAsks, groupsSoFar, storesSoFar, groupAsks, storeAsks, lastAsks, Outcome, accepted, refused}
 
 -- every question is answered yes
 abbrev pub AllYes : List Question → Type 0
 AllYes [] = Unit {0}
-AllYes (q ∷ qs) = (q .answer ≡ true) × AllYes qs
+AllYes (q ∷ qs) = (q .yes ≡ true) × AllYes qs
 
 -- n and k are the number and the slot of the first question that is answered no
 pub data FirstNo : List Question → ℕ → ℕ → Type 0 where
-  here : (q : Question) (qs : List Question) → q .answer ≡ false → FirstNo (q ∷ qs) (q .number) (q .slot)
-  later : (q : Question) (qs : List Question) {n k : ℕ} → q .answer ≡ true → FirstNo qs n k → FirstNo (q ∷ qs) n k
+  here : (q : Question) (qs : List Question) → q .yes ≡ false → FirstNo (q ∷ qs) (q .number) (q .slot)
+  later : (q : Question) (qs : List Question) {n k : ℕ} → q .yes ≡ true → FirstNo qs n k → FirstNo (q ∷ qs) n k
 
 -- the slots of b, the last one first, are a chain of the file from the link `from` on, and it goes on at `link`
 abbrev pub Chain : List ℕ → ℕ → List ℕ → ℕ → Type 0
@@ -34,10 +34,10 @@ pub record Reached (asks : List ℕ → ℕ → List Question) (s : List ℕ) (f
 
 -- the groups of c, and after them its store records, up to a link
 abbrev pub Groups : List ℕ → Chains → ℕ → Type 0
-Groups s c link = Reached (λ (b : List ℕ). groupAsks s (groupsSoFar b)) s (headerAt s .groups) (c .groups) link
+Groups s c link = Reached (λ (b : List ℕ). groupAsks s (groupsSoFar b)) s (headerAt s .heads .groups) (c .groups) link
 
 abbrev pub Stores : List ℕ → Chains → ℕ → Type 0
-Stores s c link = Reached (λ (b : List ℕ). storeAsks s (storesSoFar c b)) s (headerAt s .stores) (c .stores) link
+Stores s c link = Reached (λ (b : List ℕ). storeAsks s (storesSoFar c b)) s (headerAt s .heads .stores) (c .stores) link
 
 -- an accepted file: each chain from the header's link to a zero, and every question answered yes
 pub record Accepts (s : List ℕ) (c : Chains) : Type 0 where
@@ -53,6 +53,6 @@ pub data Refuses (s : List ℕ) (n k : ℕ) : Type 0 where
   at-store : (c : Chains) (j : ℕ) → AllYes (headAsks s) → Groups s c 0 → Stores s c j → (j ≡ 0 → ⊥) → FirstNo (storeAsks s (storesSoFar c (c .stores)) j) n k → Refuses s n k
   at-last : (c : Chains) → AllYes (headAsks s) → Groups s c 0 → Stores s c 0 → FirstNo (lastAsks s c) n k → Refuses s n k
 
-abbrev pub Means : List ℕ → Verdict → Type 0
+abbrev pub Means : List ℕ → Outcome → Type 0
 Means s (accepted c) = Accepts s c
 Means s (refused n k) = Refuses s n k

@@ -12,17 +12,17 @@ use Rattle.slots.specs.Layout.{groupOf, groupGood, groupKind, coefficientsOf, c
 use Rattle.slot_file.specs.Sources.{coefficientSlot, groupAt, headerAt, Chains}
 
 pub record Question : Type 0 where
-  pub answer : Bool
+  pub yes : Bool
   pub number : ℕ
   pub slot : ℕ
 
 abbrev pub question : Bool → ℕ → ℕ → Question
-question t n k = record { answer = t; number = n; slot = k }
+question t n k = record { yes = t; number = n; slot = k }
 
 -- accepted, with the chains; or refused, with a number and a slot
-pub data Verdict : Type 0 where
-  accepted : Chains → Verdict
-  refused : ℕ → ℕ → Verdict
+pub data Outcome : Type 0 where
+  accepted : Chains → Outcome
+  refused : ℕ → ℕ → Outcome
 
 -- the last number that a refusal of a file can have; "Only a listing asks 13"
 abbrev pub lastNumber : ℕ

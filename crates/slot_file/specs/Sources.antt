@@ -10,7 +10,7 @@ use Rattle.vehicle_fields.specs.declared.group.Coefficients.{Coefficients}
 use Rattle.slots.specs.Bytes.{slotOf}
 use Rattle.slots.specs.Layout.{headerOf, groupRead, coefficientsRead, storeOf}
 use Rattle.slots.specs.declared.header.Header.{Header}
-use Rattle.slots.specs.declared.store.Store.{Store}
+use Rattle.slots.specs.declared.store.StoreRecord.{StoreRecord}
 
 -- "34..35 first coefficient slot", and the chain from there: the coefficient slot of a group for the pollutant at place n from 0
 unfoldable pub coefficientSlot : List ℕ → ℕ → ℕ → ℕ
@@ -29,7 +29,7 @@ groupAt s g = record {
 }
 
 -- the record of a slot that reads as one
-unfoldable pub storeAt : List ℕ → ℕ → Store
+unfoldable pub storeAt : List ℕ → ℕ → StoreRecord
 storeAt s k = storeOf (slotOf s k)
 
 -- slot 0
@@ -48,7 +48,7 @@ pub record Chains : Type 0 where
 pub record Inventory : Type 0 where
   pub temperatures : List ℤ
   pub groups : List VehicleGroup
-  pub stores : List Store
+  pub stores : List StoreRecord
 
 unfoldable pub inventoryAt : List ℕ → Chains → Inventory
 inventoryAt s c = record {

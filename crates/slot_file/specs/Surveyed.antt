@@ -12,8 +12,8 @@ use Rattle.sums.specs.Fraction.{Frac, _over_, whole}
 use Rattle.warmups.specs.Warmup.{minutesAt}
 use Rattle.slot_file.specs.declared.Answer.{Answer}
 use Rattle.slot_file.specs.Sources.{VehicleGroup, temperaturesAt, Chains, inventoryAt}
-use Rattle.slot_file.specs.Questions.{Verdict, accepted, refused}
-use Rattle.slot_file.specs.Walk.{verdict}
+use Rattle.slot_file.specs.Questions.{Outcome, accepted, refused}
+use Rattle.slot_file.specs.Walk.{outcome}
 use Rattle.slot_file.specs.Codes.{codes}
 use Rattle.slot_file.specs.Figures.{refusal, answer}
 use Rattle.slot_file.specs.Alike.{AlikeFiles}
@@ -82,13 +82,13 @@ pub record Row : Type 0 where
 abbrev given : List ℕ → List Frac → List ℕ → Row
 given f m t = record { file = f; minutes = m; prints = t }
 
-abbrev warmups : List ℕ → Verdict → List Frac
+abbrev warmups : List ℕ → Outcome → List Frac
 warmups s (accepted c) = map (λ (v : VehicleGroup). minutesAt (v .group) (getD (temperaturesAt s) 0 (pos 0))) (inventoryAt s c .groups)
 warmups s (refused n k) = []
 
 -- what the definitions make of a row's file: a table is right where this is the table itself
 abbrev pub worked : Row → Row
-worked r = given (r .file) (warmups (r .file) (verdict (r .file))) (printed (answer (r .file)))
+worked r = given (r .file) (warmups (r .file) (outcome (r .file))) (printed (answer (r .file)))
 
 abbrev pub Right : List Row → Type 0
 Right rows = map worked rows ≡ rows
@@ -165,9 +165,9 @@ abbrev lentOf : Answer → ℕ → Listed
 lentOf a n = listed a (replicate n 7)
 
 pub record LentOfB (a : Answer) : Type 0 where
-  pub short : lentOf a 267 ≡ record { answer = refusal 13 0; length = 0; buffer = replicate 267 7 }
-  pub just : lentOf a 268 ≡ record { answer = a; length = 268; buffer = text listingOfB }
-  pub longer : lentOf a 270 ≡ record { answer = a; length = 268; buffer = text listingOfB ++ (7 ∷ 7 ∷ []) }
+  pub short : lentOf a 267 ≡ record { answer = refusal 13 0; written = 0; buffer = replicate 267 7 }
+  pub just : lentOf a 268 ≡ record { answer = a; written = 268; buffer = text listingOfB }
+  pub longer : lentOf a 270 ≡ record { answer = a; written = 268; buffer = text listingOfB ++ (7 ∷ 7 ∷ []) }
 
 -- B's answer: only the code 0337 has figures
 unfoldable pub answerOfB : Answer
@@ -214,8 +214,8 @@ yardRefusals =
 
 -- ---- the letter's two desks: two different files, both accepted, that are alike
 pub record Desks (s t : List ℕ) (c d : Chains) : Type 0 where
-  pub ours : verdict s ≡ accepted c
-  pub theirs : verdict t ≡ accepted d
+  pub ours : outcome s ≡ accepted c
+  pub theirs : outcome t ≡ accepted d
   pub alike : AlikeFiles (inventoryAt s c) (inventoryAt t d)
 
 -- the coefficients of the six pollutants, from the slot k on

@@ -3,38 +3,38 @@ use Prim.Native.Nat.{ℕ, zero, suc}
 use mathlib.Core.List.{List, [], _∷_}
 use lib.Dec.{eqb}
 use Rattle.sums.specs.Choice.{if_then_else}
-use Rattle.sums.specs.declared.answer.Verdict as answer
+use Rattle.sums.specs.declared.answer.Verdict.{Verdict}
 use Rattle.slots.specs.Bytes.{slotOf}
 use Rattle.slots.specs.Layout.{nextOf}
 use Rattle.slot_file.specs.Sources.{headerAt, Chains}
-use Rattle.slot_file.specs.Questions.{mostSlots, Question, Verdict, accepted, refused, headAsks, groupsSoFar, storesSoFar, groupAsks, storeAsks, lastAsks}
+use Rattle.slot_file.specs.Questions.{mostSlots, Question, Outcome, accepted, refused, headAsks, groupsSoFar, storesSoFar, groupAsks, storeAsks, lastAsks}
 
 -- the refusal of the first question that is answered no, and else v
-unfoldable pub first : List Question → Verdict → Verdict
+unfoldable pub first : List Question → Outcome → Outcome
 first [] v = v
-first (q ∷ qs) v = if_then_else (q .answer) (first qs v) (refused (q .number) (q .slot))
+first (q ∷ qs) v = if_then_else (q .yes) (first qs v) (refused (q .number) (q .slot))
 
 -- a chain from the link k on, after the slots b, the last first: `asks` has what is asked of a link, "zero ends it", and then comes `end`. A chain of different
--- slots of a file is shorter than n, which is `mostSlots` where the chain begins: so the case of none left is never met (`Verdicts.says`)
-unfoldable pub chain : (List ℕ → ℕ → List Question) → (List ℕ → Verdict) → ℕ → List ℕ → List ℕ → ℕ → Verdict
+-- slots of a file is shorter than n, which is `mostSlots` where the chain begins: so the case of none left is never met (`Outcomes.says`)
+unfoldable pub chain : (List ℕ → ℕ → List Question) → (List ℕ → Outcome) → ℕ → List ℕ → List ℕ → ℕ → Outcome
 chain asks end zero s b k = refused 7 k
 chain asks end (suc n) s b k = if_then_else (eqb k 0) (end b) (first (asks b k) (chain asks end n s (k ∷ b) (nextOf (slotOf s k))))
 
 -- at the end of the chains, question 12
-abbrev pub afterAll : List ℕ → Chains → Verdict
+abbrev pub afterAll : List ℕ → Chains → Outcome
 afterAll s c = first (lastAsks s c) (accepted c)
 
 -- the store chain, after the groups of c
-unfoldable pub storeWalk : List ℕ → Chains → Verdict
-storeWalk s c = chain (λ (b : List ℕ). storeAsks s (storesSoFar c b)) (λ (b : List ℕ). afterAll s (storesSoFar c b)) mostSlots s [] (headerAt s .stores)
+unfoldable pub storeWalk : List ℕ → Chains → Outcome
+storeWalk s c = chain (λ (b : List ℕ). storeAsks s (storesSoFar c b)) (λ (b : List ℕ). afterAll s (storesSoFar c b)) mostSlots s [] (headerAt s .heads .stores)
 
-unfoldable pub groupWalk : List ℕ → Verdict
-groupWalk s = chain (λ (b : List ℕ). groupAsks s (groupsSoFar b)) (λ (b : List ℕ). storeWalk s (groupsSoFar b)) mostSlots s [] (headerAt s .groups)
+unfoldable pub groupWalk : List ℕ → Outcome
+groupWalk s = chain (λ (b : List ℕ). groupAsks s (groupsSoFar b)) (λ (b : List ℕ). storeWalk s (groupsSoFar b)) mostSlots s [] (headerAt s .heads .groups)
 
-unfoldable pub verdict : List ℕ → Verdict
-verdict s = first (headAsks s) (groupWalk s)
+unfoldable pub outcome : List ℕ → Outcome
+outcome s = first (headAsks s) (groupWalk s)
 
 -- what a check answers: "either accepted or refused by number and slot"; 0 and 0 of an accepted file
-abbrev pub told : Verdict → answer.Verdict
+abbrev pub told : Outcome → Verdict
 told (accepted c) = record { number = 0; slot = 0 }
 told (refused n k) = record { number = n; slot = k }

@@ -7,17 +7,17 @@ use Prim.Native.Nat.{ℕ}
 use Rattle.sums.specs.Choice.{if_then_else}
 use Rattle.slots.specs.Bytes.{numberOf}
 use Rattle.slots.specs.Layout.{storeKind, storeOf, storeGood, readBy, readStore, storeFields, readNumber, readValues, StoreReads}
-use Rattle.slots.specs.declared.store.Store.{Store}
+use Rattle.slots.specs.declared.store.StoreRecord.{StoreRecord}
 use Rattle.slots.specs.declared.store.StoreRead.{StoreRead}
 use Rattle.slots.specs.declared.store.StoreRead.the-variants.{WrongKind}
 
-numbered : (kind good : Bool) (r : Store) → readNumber (if_then_else kind (readBy good r) WrongKind) ≡ numberOf kind good
+numbered : (kind good : Bool) (r : StoreRecord) → readNumber (if_then_else kind (readBy good r) WrongKind) ≡ numberOf kind good
 unfolding if_then_else readBy numberOf
 numbered true true r = refl
 numbered true false r = refl
 numbered false good r = refl
 
-valued : (kind good : Bool) (r : Store) → readValues (if_then_else kind (readBy good r) WrongKind) ≡ if_then_else (kind && good) (storeFields r) []
+valued : (kind good : Bool) (r : StoreRecord) → readValues (if_then_else kind (readBy good r) WrongKind) ≡ if_then_else (kind && good) (storeFields r) []
 unfolding if_then_else readBy
 valued true true r = refl
 valued true false r = refl

@@ -19,8 +19,8 @@ use Rattle.slots.specs.Bytes.{byteAt, u16At, u32At, i16At, zeroFrom, num
 use Rattle.slots.specs.declared.header.Header.{Header}
 use Rattle.slots.specs.declared.group.GroupRead.{GroupRead}
 use Rattle.slots.specs.declared.coefficients.CoefficientsRead.{CoefficientsRead}
-use Rattle.slots.specs.declared.store.Store.{Store}
-use Rattle.slots.specs.declared.store.Store.the-variants.{Handling, Standing, Aspiration}
+use Rattle.slots.specs.declared.store.StoreRecord.{StoreRecord}
+use Rattle.slots.specs.declared.store.StoreRecord.the-variants.{Handling, Standing, Aspiration}
 use Rattle.slots.specs.declared.store.StoreRead.{StoreRead}
 use Rattle.slots.specs.declared.store.StoreRead.the-variants.{Record, WrongKind, OutOfRange}
 
@@ -37,8 +37,7 @@ unfoldable pub headerOf : List ℕ → Header
 headerOf t = record {
   format = u16At t 0;
   count = u16At t 2;
-  groups = u16At t 4;
-  stores = u16At t 6;
+  heads = record { groups = u16At t 4; stores = u16At t 6 };
   temperatures = temperaturesOf t;
   rest = zeroFrom t 32 32;
 }
@@ -157,14 +156,14 @@ unfoldable pub byKind : {A : Type 0} → List ℕ → A → A → A → A
 byKind t handling standing aspiration = if_then_else (eqb (byteAt t 2) 3) handling (if_then_else (eqb (byteAt t 2) 4) standing aspiration)
 
 -- "each with its own fields", and question 9 of them
-unfoldable pub storeOf : List ℕ → Store
+unfoldable pub storeOf : List ℕ → StoreRecord
 storeOf t = byKind t (Handling (handlingOf t)) (Standing (standingOf t)) (Aspiration (aspirationOf t))
 
 unfoldable pub storeGood : List ℕ → Bool
 storeGood t = byKind t (handlingGood t (handlingOf t)) (standingGood t (standingOf t)) (aspirationGood t (aspirationOf t))
 
 -- a record where its tests hold
-unfoldable pub readBy : Bool → Store → StoreRead
+unfoldable pub readBy : Bool → StoreRecord → StoreRead
 readBy good r = if_then_else good (Record r) OutOfRange
 
 unfoldable pub readStore : List ℕ → StoreRead
@@ -175,7 +174,7 @@ readStore t = if_then_else (storeKind t) (readBy (storeGood t) (storeOf t)) Wron
 abbrev pub bulkFields : Bulk → List ℕ
 bulkFields b = b .dust ∷ b .store ∷ b .material ∷ b .wind ∷ b .moisture ∷ b .grain ∷ b .openness ∷ b .amount ∷ []
 
-abbrev pub storeFields : Store → List ℕ
+abbrev pub storeFields : StoreRecord → List ℕ
 storeFields (Handling h) = 3 ∷ h .drop ∷ bulkFields (h .bulk)
 storeFields (Standing s) = 4 ∷ s .k6 ∷ bulkFields (s .bulk)
 storeFields (Aspiration a) = 5 ∷ a .dust ∷ a .store ∷ a .concentration ∷ a .flow ∷ a .capture ∷ a .hours ∷ []

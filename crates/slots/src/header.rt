@@ -6,12 +6,17 @@ ghost use Rattle.slots.specs.Layout.{temperaturesOf, headerOf};
 use super::numbers;
 use super::slot;
 
-// The format number, the count of slots, the first group and store record, the temperatures, and whether the other bytes are zero.
+// The first slot of each chain, or 0.
+pub struct Heads {
+    pub groups: u16,
+    pub stores: u16,
+}
+
+// The format number, the count of slots, the chains' heads, the temperatures, and whether the other bytes are zero.
 pub struct Header {
     pub format: u16,
     pub count: u16,
-    pub groups: u16,
-    pub stores: u16,
+    pub heads: Heads,
     pub temperatures: [i16; 12],
     pub rest: bool,
 }
@@ -45,8 +50,10 @@ pub fn read_header(file: &[u8]) -> Header
     Header {
         format: numbers::u16_at(t, 0),
         count: numbers::u16_at(t, 2),
-        groups: numbers::u16_at(t, 4),
-        stores: numbers::u16_at(t, 6),
+        heads: Heads {
+            groups: numbers::u16_at(t, 4),
+            stores: numbers::u16_at(t, 6),
+        },
         temperatures: temperatures_of(t),
         rest: numbers::zero_from(t, 32, 32),
     }

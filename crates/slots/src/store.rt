@@ -3,7 +3,7 @@ ghost use mathlib.Core.Path.{_≡_};
 ghost use lib.ListN.{length};
 ghost use Rattle.slots.specs.Bytes.{slotSize, slotOf};
 ghost use Rattle.slots.specs.Layout.{bulkOf, handlingOf, handlingGood, standingOf, standingGood, aspirationOf, aspirationGood, readBy, StoreReads};
-ghost use Rattle.slots.specs.declared.store.Store.the-variants as variants;
+ghost use Rattle.slots.specs.declared.store.StoreRecord.the-variants as variants;
 use super::numbers;
 use super::slot;
 use store_records::Aspiration;
@@ -11,7 +11,7 @@ use store_records::Bulk;
 use store_records::Handling;
 use store_records::Standing;
 
-pub enum Store {
+pub enum StoreRecord {
     Handling(Handling),
     Standing(Standing),
     Aspiration(Aspiration),
@@ -19,7 +19,7 @@ pub enum Store {
 
 // A record, or the question that the slot is refused by: 8 and 9.
 pub enum StoreRead {
-    Record(Store),
+    Record(StoreRecord),
     WrongKind,
     OutOfRange,
 }
@@ -66,7 +66,7 @@ fn read_handling(t: &[u8]) -> StoreRead
 {
     let h = handling_of(t);
     if handling_good(t, h) {
-        StoreRead::Record(Store::Handling(h))
+        StoreRead::Record(StoreRecord::Handling(h))
     } else {
         StoreRead::OutOfRange
     }
@@ -99,7 +99,7 @@ fn read_standing(t: &[u8]) -> StoreRead
 {
     let s = standing_of(t);
     if standing_good(t, s) {
-        StoreRead::Record(Store::Standing(s))
+        StoreRead::Record(StoreRecord::Standing(s))
     } else {
         StoreRead::OutOfRange
     }
@@ -134,7 +134,7 @@ fn read_aspiration(t: &[u8]) -> StoreRead
 {
     let a = aspiration_of(t);
     if aspiration_good(t, a) {
-        StoreRead::Record(Store::Aspiration(a))
+        StoreRead::Record(StoreRecord::Aspiration(a))
     } else {
         StoreRead::OutOfRange
     }

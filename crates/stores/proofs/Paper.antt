@@ -11,7 +11,7 @@ use Rattle.sums.specs.Answer.{contribution}
 use Rattle.store_records.specs.declared.records.Handling.{Handling}
 use Rattle.store_records.specs.declared.records.Standing.{Standing}
 use Rattle.store_records.specs.declared.records.Aspiration.{Aspiration}
-use Rattle.stores.specs.Rules.{handlingPeak, standingPeak, bulkTonnes, aspirationPeak, aspirationTonnes, codeOf, answer}
+use Rattle.stores.specs.Rules.{handlingPeak, standingPeak, bulkTonnes, aspirationPeak, aspirationTonnes, dustCode, storeAnswer}
 use Rattle.stores.specs.Parts.{exposureParts, handlingParts, standingParts, aspirationParts, bulkUnits, bulkYearUnits, aspirationUnits, aspirationHourUnits, answerOf}
 use Rattle.stores.proofs.TableTests.{k1-scaled, k2-scaled, q-scaled, k3-scaled, k4-scaled, k5-scaled, k6-same, k7-scaled, drop-scaled}
 
@@ -64,5 +64,5 @@ aspiration-counted a =
     }
 
 -- the sums of so many units are the rule's answer
-pub summed : {tonnes rate : Frac} {a p : ℕ} (dust : ℕ) → Counted tonnes rate a p → answerOf dust (annualOf a) (peakOf p) ≡ answer (contribution (codeOf dust) tonnes rate)
+pub summed : {tonnes rate : Frac} {a p : ℕ} (dust : ℕ) → Counted tonnes rate a p → answerOf dust (annualOf a) (peakOf p) ≡ storeAnswer (contribution (dustCode dust) tonnes rate)
 summed dust e = rw (parts (e .annual), parts (e .peak))

@@ -2,14 +2,14 @@
 use Prim.Native.Nat.{ℕ, _*_, _/_, _-_}
 use Rattle.sums.specs.Fraction.{partsOf}
 use Rattle.sums.specs.Figures.{tonneParts, gramParts}
-use Rattle.sums.specs.Answer.{accepted}
+use Rattle.sums.specs.Answer.{noRefusal}
 use Rattle.sums.specs.declared.annual.AnnualSum.{AnnualSum}
 use Rattle.sums.specs.declared.peak.PeakSum.{PeakSum}
 use Rattle.store_records.specs.declared.records.Bulk.{Bulk}
 use Rattle.store_records.specs.declared.records.Handling.{Handling}
 use Rattle.store_records.specs.declared.records.Standing.{Standing}
 use Rattle.store_records.specs.declared.records.Aspiration.{Aspiration}
-use Rattle.stores.specs.Rules.{numbered, k1Table, k2Table, qTable, k3Of, k4Table, k5Of, k6Of, k7Of, dropTable, codeOf}
+use Rattle.stores.specs.Rules.{numbered, k1Table, k2Table, qTable, k3Of, k4Table, k5Of, k6Of, k7Of, dropTable, dustCode}
 use Rattle.stores.specs.declared.rules.StoreAnswer.{StoreAnswer}
 
 -- K3 K4 K5 K7, in ten-millionths
@@ -49,4 +49,4 @@ aspirationHourUnits = 3600 * massUnits
 
 -- an answer by its sums
 abbrev pub answerOf : ℕ → AnnualSum → PeakSum → StoreAnswer
-answerOf dust a p = record { verdict = accepted; emission = record { code = codeOf dust; annual = a; peak = p } }
+answerOf dust a p = record { verdict = noRefusal; emission = record { code = dustCode dust; annual = a; peak = p } }

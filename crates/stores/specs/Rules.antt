@@ -6,7 +6,7 @@ use lib.ListN.{getD}
 use Rattle.sums.specs.Choice.{if_then_else}
 use Rattle.sums.specs.Fraction.{Frac, _over_, whole, _⊙_, _per_}
 use Rattle.sums.specs.Table.{Line, to, upTo}
-use Rattle.sums.specs.Answer.{Contribution, contribution, accepted, refusedBy, emitted, noEmission}
+use Rattle.sums.specs.Answer.{Contribution, contribution, noRefusal, refusedBy, emitted, noEmission}
 use Rattle.store_records.specs.Fields.{handlingInRange, standingInRange, aspirationInRange}
 use Rattle.store_records.specs.declared.records.Handling.{Handling}
 use Rattle.store_records.specs.declared.records.Standing.{Standing}
@@ -113,31 +113,31 @@ aspirationTonnes peak hours = 36 over 10000 ⊙ peak ⊙ whole hours
 abbrev pub dustCodes : List ℕ
 dustCodes = 152 ∷ 2908 ∷ 2909 ∷ []
 
-abbrev pub codeOf : ℕ → ℕ
-codeOf dust = getD dustCodes (dust - 1) 0
+abbrev pub dustCode : ℕ → ℕ
+dustCode dust = getD dustCodes (dust - 1) 0
 
 -- what a record gives to the code of its dust
 abbrev pub handlingContribution : Handling → Contribution
-handlingContribution h = contribution (codeOf (h .bulk .dust)) (bulkTonnes (handlingPeak h)) (handlingPeak h)
+handlingContribution h = contribution (dustCode (h .bulk .dust)) (bulkTonnes (handlingPeak h)) (handlingPeak h)
 
 abbrev pub standingContribution : Standing → Contribution
-standingContribution s = contribution (codeOf (s .bulk .dust)) (bulkTonnes (standingPeak s)) (standingPeak s)
+standingContribution s = contribution (dustCode (s .bulk .dust)) (bulkTonnes (standingPeak s)) (standingPeak s)
 
 abbrev pub aspirationContribution : Aspiration → Contribution
-aspirationContribution a = contribution (codeOf (a .dust)) (aspirationTonnes (aspirationPeak a) (a .hours)) (aspirationPeak a)
+aspirationContribution a = contribution (dustCode (a .dust)) (aspirationTonnes (aspirationPeak a) (a .hours)) (aspirationPeak a)
 
 -- a record in range is answered what it gives, exactly (`Exactly.handling-exactly`, `standing-exactly`, `aspiration-exactly`); one out of range is refused 9, with zero figures and slot 0
-abbrev pub answer : Contribution → StoreAnswer
-answer x = record { verdict = accepted; emission = emitted x }
+abbrev pub storeAnswer : Contribution → StoreAnswer
+storeAnswer x = record { verdict = noRefusal; emission = emitted x }
 
 abbrev pub outOfRange : StoreAnswer
 outOfRange = record { verdict = refusedBy 9; emission = noEmission }
 
 unfoldable pub handlingAnswer : Handling → StoreAnswer
-handlingAnswer h = if_then_else (handlingInRange h) (answer (handlingContribution h)) outOfRange
+handlingAnswer h = if_then_else (handlingInRange h) (storeAnswer (handlingContribution h)) outOfRange
 
 unfoldable pub standingAnswer : Standing → StoreAnswer
-standingAnswer s = if_then_else (standingInRange s) (answer (standingContribution s)) outOfRange
+standingAnswer s = if_then_else (standingInRange s) (storeAnswer (standingContribution s)) outOfRange
 
 unfoldable pub aspirationAnswer : Aspiration → StoreAnswer
-aspirationAnswer a = if_then_else (aspirationInRange a) (answer (aspirationContribution a)) outOfRange
+aspirationAnswer a = if_then_else (aspirationInRange a) (storeAnswer (aspirationContribution a)) outOfRange

@@ -3,7 +3,7 @@ ghost use mathlib.Core.Path.{_≡_};
 ghost use Prim.Native.Nat.{_≤_};
 ghost use Rattle.sums.specs.Fraction.{partsOf};
 ghost use Rattle.sums.specs.Table.{lineOf, bounds};
-ghost use Rattle.stores.specs.Rules.{numbered, k1Table, k2Table, qTable, k3Table, k3Of, k4Table, k5Table, k5Of, k6Of, k7Table, k7Of, dropTable, codeOf};
+ghost use Rattle.stores.specs.Rules.{numbered, k1Table, k2Table, qTable, k3Table, k3Of, k4Table, k5Table, k5Of, k6Of, k7Table, k7Of, dropTable, dustCode};
 
 // Table 2, by material: K1 and K2 in hundredths, Q in thousandths.
 const K1: [u64; 9] = [3, 4, 7, 4, 3, 5, 4, 5, 4];
@@ -149,7 +149,7 @@ pub(crate) fn drop_factor(class: u8) -> u64
 
 pub(crate) fn code_of(dust: u8) -> u16
     requires { ⌜ (1 ≤ dust) × (dust ≤ 3) ⌝ }
-    ensures { λ r. ⌜ r ≡ codeOf dust ⌝ }
+    ensures { λ r. ⌜ r ≡ dustCode dust ⌝ }
 {
     let at = (dust - 1) as usize;
     CODES[at]

@@ -5,8 +5,8 @@ use Rattle.sums.specs.Figures.{annualOf, peakOf, annualSum, peakSum}
 use Rattle.sums.specs.declared.answer.Verdict.{Verdict}
 use Rattle.sums.specs.declared.answer.Emission.{Emission}
 
-abbrev pub accepted : Verdict
-accepted = record { number = 0; slot = 0 }
+abbrev pub noRefusal : Verdict
+noRefusal = record { number = 0; slot = 0 }
 
 -- "such a rule answers 9, then 11 ..., with zero figures and slot 0"
 abbrev pub refusedBy : ℕ → Verdict

@@ -15,7 +15,7 @@ use Rattle.tezhebul.specs.Fields.{lengths, rowsOf, flagged}
 
 -- a listing's length and its bytes, and in `out`, where there is room for them, the numbers of what it answers
 abbrev pub ListingGiven : Listed → ℕ → List ℕ → List ℕ → List ℕ → Type 0
-ListingGiven l r buffer before after = (r ≡ l .length) × (buffer ≡ l .buffer) × (after ≡ into (numbersOf (l .answer)) before)
+ListingGiven l r buffer before after = (r ≡ l .written) × (buffer ≡ l .buffer) × (after ≡ into (numbersOf (l .answer)) before)
 
 -- the numbers of a group's answer, where each slice is as long as it has to be and there is room for them; else nothing
 abbrev pub GroupGiven : ℕ → (List ℕ → List ℕ → Group) → List ℕ → List ℕ → List ℤ → List ℕ → List ℕ → Bool → List ℕ → Type 0

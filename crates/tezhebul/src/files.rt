@@ -1,6 +1,6 @@
 // The check, the answer and the listing of a slot file.
 ghost use mathlib.Core.Path.{_≡_};
-ghost use Rattle.slot_file.specs.Walk.{verdict, told};
+ghost use Rattle.slot_file.specs.Walk.{outcome, told};
 ghost use Rattle.slot_file.specs.Figures.{answer};
 ghost use Rattle.slot_file.specs.Listing.{listed};
 ghost use Rattle.answer_numbers.specs.Numbers.{packed, numbersOf, answerSize, Given};
@@ -9,7 +9,7 @@ ghost use Rattle.tezhebul.specs.Memory.{ListingGiven};
 // 0 of an accepted file, and else 65,536 times the refusal's number, plus its slot.
 #[no_mangle]
 pub extern "C" fn tezhebul_check(file: &[u8]) -> u32
-    ensures { λ r. ⌜ r ≡ packed (told (verdict (now (file .entry)))) ⌝ }
+    ensures { λ r. ⌜ r ≡ packed (told (outcome (now (file .entry)))) ⌝ }
 {
     let v = walk::check(file);
     65_536 * (v.number as u32) + v.slot as u32
@@ -32,5 +32,5 @@ pub extern "C" fn tezhebul_list(file: &[u8], buffer: &mut [u8], out: &mut [u64])
     let listing = listing::list(file, buffer);
     let a = listing.answer;
     answer_numbers::give_answer(a, out);
-    listing.length
+    listing.written
 }

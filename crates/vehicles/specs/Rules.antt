@@ -6,7 +6,7 @@ use lib.IntN.{ℤ, pos}
 use lib.ListN.{getD, replicate}
 use Rattle.sums.specs.Choice.{if_then_else, listTo}
 use Rattle.sums.specs.Fraction.{Frac, _over_, whole, _⊙_, _⊞_, _per_, totalTo}
-use Rattle.sums.specs.Answer.{Contribution, contribution, accepted, refusedBy, emitted, noEmission}
+use Rattle.sums.specs.Answer.{Contribution, contribution, noRefusal, refusedBy, emitted, noEmission}
 use Rattle.sums.specs.declared.answer.Emission.{Emission}
 use Rattle.vehicle_fields.specs.Fields.{pollutantCount, noMinute, noKilometre, noCoefficients, inRange}
 use Rattle.vehicle_fields.specs.SootAndLead.{zeroWhereDue}
@@ -97,5 +97,5 @@ groupRefusal n = record { verdict = refusedBy n; emissions = replicate emissionC
 unfoldable pub groupAnswer : Group → List ℤ → List Coefficients → GroupAnswer
 groupAnswer g ts ks =
     if_then_else (inRange g ts ks)
-    (if_then_else (zeroWhereDue g ks) (record { verdict = accepted; emissions = emissionsOf g ts ks }) (groupRefusal 11))
+    (if_then_else (zeroWhereDue g ks) (record { verdict = noRefusal; emissions = emissionsOf g ts ks }) (groupRefusal 11))
     (groupRefusal 9)

@@ -17,8 +17,8 @@ use Rattle.stores.proofs.Bounds.{handling-bounded, standing-bounded, aspiration
 use Rattle.vehicle_fields.specs.Fields.{noCoefficients}
 use Rattle.vehicles.specs.Rules.{emissionCount, contributionOf}
 use Rattle.vehicles.proofs.Bounds.{group-bounded}
-use Rattle.slots.specs.declared.store.Store.{Store}
-use Rattle.slots.specs.declared.store.Store.the-variants.{Handling, Standing, Aspiration}
+use Rattle.slots.specs.declared.store.StoreRecord.{StoreRecord}
+use Rattle.slots.specs.declared.store.StoreRecord.the-variants.{Handling, Standing, Aspiration}
 use Rattle.slot_file.specs.Sources.{groupAt, storeAt, temperaturesAt, Chains}
 use Rattle.slot_file.specs.Questions.{mostSlots, sourcesOf, groupsSoFar, storesSoFar, groupAsks, storeAsks}
 use Rattle.slot_file.specs.Meaning.{AllYes, Good, Groups, Stores}
@@ -46,7 +46,7 @@ module _ (f : Contribution → Frac) (k most : ℕ) (bound : (n : ℕ) (x : Cont
       (λ (p : ℕ) (l : p < emissionCount). one-most emissionCount (x p) (group-bounded (v .group) (temperaturesAt s) (getD (v .coefficients) p noCoefficients)
       (group-in-range s (groupsSoFar gs) g h) (row-in-range s (groupsSoFar gs) g h p l) p)))
 
-  store-most : (r : Store) → storeInRange r ≡ true → total (partsTo f k c) (storeContributions r) ≤ most
+  store-most : (r : StoreRecord) → storeInRange r ≡ true → total (partsTo f k c) (storeContributions r) ≤ most
   unfolding storeContributions
   store-most (Handling h) e = omega (arith, one-most 1 (handlingContribution h) (handling-bounded h e))
   store-most (Standing r) e = omega (arith, one-most 1 (standingContribution r) (standing-bounded r e))

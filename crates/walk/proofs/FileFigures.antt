@@ -17,7 +17,7 @@ use Rattle.sums.proofs.Choices.{yes, listTo-same}
 use Rattle.sums.specs.Exactness.{annualMost, peakMost, sourcesMost, Bounded}
 use Rattle.sums.proofs.Exact.{figure-exact}
 use Rattle.sums.proofs.Figure.{nearest-same}
-use Rattle.slots.specs.declared.store.Store.{Store}
+use Rattle.slots.specs.declared.store.StoreRecord.{StoreRecord}
 use Rattle.slot_file.specs.Sources.{VehicleGroup, groupAt, storeAt, temperaturesAt, Chains, inventoryAt}
 use Rattle.slot_file.specs.Meaning.{Accepts}
 use Rattle.slot_file.specs.Codes.{codes, codeCount}
@@ -51,7 +51,7 @@ module _ (s : List ℕ) (b : Chains) where
         arith,
         total-contributions (inventoryAt s b) n,
         total-reversed (λ (g : VehicleGroup). total n (groupContributions (temperaturesAt s) g)) (groupAt s) (b .groups),
-        total-reversed (λ (r : Store). total n (storeContributions r)) (storeAt s) (b .stores),
+        total-reversed (λ (r : StoreRecord). total n (storeContributions r)) (storeAt s) (b .stores),
       )
 
   module _ (a : Accepts s b) where

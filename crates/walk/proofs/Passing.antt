@@ -16,8 +16,8 @@ use Rattle.vehicles.specs.declared.rule.GroupAnswer.{GroupAnswer}
 use Rattle.vehicles.specs.Rules.{emissionCount, contributionOf, emissionOf, emissionsOf, groupAnswer}
 use Rattle.slots.specs.Bytes.{slotOf}
 use Rattle.slots.specs.Layout.{readStore}
-use Rattle.slots.specs.declared.store.Store.{Store}
-use Rattle.slots.specs.declared.store.Store.the-variants.{Handling, Standing, Aspiration}
+use Rattle.slots.specs.declared.store.StoreRecord.{StoreRecord}
+use Rattle.slots.specs.declared.store.StoreRecord.the-variants.{Handling, Standing, Aspiration}
 use Rattle.slots.specs.declared.store.StoreRead.{StoreRead}
 use Rattle.slot_file.specs.Sources.{coefficientSlot, groupAt, storeAt, temperaturesAt, Chains}
 use Rattle.slot_file.specs.Questions.{mostSlots, slotCount, headAsks, coefficientSlots, reachedBy, sourcesOf, groupsSoFar, storesSoFar, storeAsks}
@@ -25,7 +25,7 @@ use Rattle.slot_file.specs.Meaning.{AllYes, Groups, Stores}
 use Rattle.slot_file.specs.Figures.{groupContributions, storeContributions}
 use Rattle.slot_file.specs.Alike.{total}
 use Rattle.slot_file.proofs.Marks.{different-short}
-use Rattle.slot_file.proofs.Verdicts.{sized, groups-differ, stores-differ}
+use Rattle.slot_file.proofs.Outcomes.{sized, groups-differ, stores-differ}
 use Rattle.slot_file.specs.Parts.{marksOf}
 use Rattle.slot_file.specs.declared.Counts.{Counts}
 use Rattle.totals.specs.Totals.{plusIn, plusToIn, column, Sums}
@@ -34,8 +34,8 @@ use Rattle.totals.proofs.Sums.{same-sums, plus-emitted, plus-all}
 use Rattle.walk.specs.Rows.{marksTo}
 use Rattle.walk.specs.Steps.{GroupStepped, StoreStepped}
 use Rattle.walk.specs.Walked.{sumsOf, plusGroup, GroupsPassed, GroupsEnded, recordEmission, storeEmission, plusStore, StoresPassed, StoresEnded}
-use Rattle.walk.specs.declared.groups.GroupStep.{GroupStep}
-use Rattle.walk.specs.declared.records.StoreStep.{StoreStep}
+use Rattle.walk.specs.declared.group_chain.GroupStep.{GroupStep}
+use Rattle.walk.specs.declared.store_chain.StoreStep.{StoreStep}
 use Rattle.slot_file.proofs.Ranged.{group-answered, storeInRange, store-answered}
 
 -- adding keeps the room
@@ -117,7 +117,7 @@ module _ (f : ℕ → ℕ → ℕ) (l : List ℕ) (s : Sums f l) where
       subst (λ (e : Emission). Sums (λ (q k : ℕ). f q k + total (column q k) (x ∷ [])) (plusIn l e)) (sym d)
       (same-sums (λ (q k : ℕ). f q k + column q k x) (λ (q k : ℕ). f q k + total (column q k) (x ∷ [])) _ (λ q k. omega arith) (plus-emitted f l s x))
 
-  record-summed : (r : Store) → storeInRange r ≡ true → Sums (λ (q k : ℕ). f q k + total (column q k) (storeContributions r)) (plusIn l (recordEmission r))
+  record-summed : (r : StoreRecord) → storeInRange r ≡ true → Sums (λ (q k : ℕ). f q k + total (column q k) (storeContributions r)) (plusIn l (recordEmission r))
   unfolding recordEmission storeContributions
   record-summed (Handling h) e = one-summed (handlingContribution h) (handling-emitted h e)
   record-summed (Standing r) e = one-summed (standingContribution r) (standing-emitted r e)

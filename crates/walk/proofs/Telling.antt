@@ -89,7 +89,7 @@ pub record Rest (qs whole : List Question) : Type 0 where
   pub all : AllYes qs → AllYes whole
   pub first : (n k : ℕ) → FirstNo qs n k → FirstNo whole n k
 
-pub rest-on : {q : Question} {qs whole : List Question} → q .answer ≡ true → Rest (q ∷ qs) whole → Rest qs whole
+pub rest-on : {q : Question} {qs whole : List Question} → q .yes ≡ true → Rest (q ∷ qs) whole → Rest qs whole
 rest-on e r = record { all = λ a. r .all (e, a); first = λ n k f. r .first n k (later _ _ e f) }
 
 -- the questions of one slot more

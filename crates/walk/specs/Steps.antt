@@ -12,11 +12,11 @@ use Rattle.slot_file.specs.Questions.{lastOf, sourcesOf, groupAsks, storeAsks}
 use Rattle.slot_file.specs.Parts.{marksOf}
 use Rattle.walk.specs.Told.{Told}
 use Rattle.walk.specs.Rows.{marksTo}
-use Rattle.walk.specs.declared.groups.GroupStep.{GroupStep}
-use Rattle.walk.specs.declared.records.StoreStep.{StoreStep}
+use Rattle.walk.specs.declared.group_chain.GroupStep.{GroupStep}
+use Rattle.walk.specs.declared.store_chain.StoreStep.{StoreStep}
 
 -- a group that nothing is refused of, and the marks after it
-pub record GroupPassed (s : List ℕ) (g : ℕ) (sources sources′ reached reached′ : List Bool) (r : GroupStep) : Type 0 where
+pub record GroupTaken (s : List ℕ) (g : ℕ) (sources sources′ reached reached′ : List Bool) (r : GroupStep) : Type 0 where
   pub group : r .group ≡ groupAt s g .group
   pub coefficients : r .coefficients ≡ groupAt s g .coefficients
   pub next : r .next ≡ nextOf (slotOf s g)
@@ -25,9 +25,9 @@ pub record GroupPassed (s : List ℕ) (g : ℕ) (sources sources′ reached reac
 
 pub record GroupStepped (s : List ℕ) (holder g : ℕ) (sources sources′ reached reached′ : List Bool) (r : GroupStep) : Type 0 where
   pub told : (c : Chains) → sources ≡ marksOf (sourcesOf c) → holder ≡ lastOf (c .groups) → Told (groupAsks s c g) (r .verdict)
-  pub passed : r .verdict .number ≡ 0 → GroupPassed s g sources sources′ reached reached′ r
+  pub passed : r .verdict .number ≡ 0 → GroupTaken s g sources sources′ reached reached′ r
 
-pub record StorePassed (s : List ℕ) (k : ℕ) (sources sources′ reached reached′ : List Bool) (r : StoreStep) : Type 0 where
+pub record StoreTaken (s : List ℕ) (k : ℕ) (sources sources′ reached reached′ : List Bool) (r : StoreStep) : Type 0 where
   pub next : r .next ≡ nextOf (slotOf s k)
   pub source-marked : sources′ ≡ set sources k true
   pub slot-marked : reached′ ≡ set reached k true
@@ -35,4 +35,4 @@ pub record StorePassed (s : List ℕ) (k : ℕ) (sources sources′ reached reac
 pub record StoreStepped (s : List ℕ) (holder k : ℕ) (sources sources′ reached reached′ : List Bool) (r : StoreStep) : Type 0 where
   pub read : r .read ≡ readStore (slotOf s k)
   pub told : (c : Chains) → sources ≡ marksOf (sourcesOf c) → holder ≡ lastOf (c .stores) → Told (storeAsks s c k) (r .verdict)
-  pub passed : r .verdict .number ≡ 0 → StorePassed s k sources sources′ reached reached′ r
+  pub passed : r .verdict .number ≡ 0 → StoreTaken s k sources sources′ reached reached′ r

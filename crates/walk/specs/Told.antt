@@ -21,7 +21,7 @@ pub record Told (qs : List Question) (v : Verdict) : Type 0 where
 
 -- one question more, which is asked where nothing was refused
 unfoldable pub asked : Verdict → Question → Verdict
-asked v q = if_then_else (eqb (v .number) 0 && not (q .answer)) (record { number = q .number; slot = q .slot }) v
+asked v q = if_then_else (eqb (v .number) 0 && not (q .yes)) (record { number = q .number; slot = q .slot }) v
 
 -- whether the slot k has a mark, and is marked
 abbrev pub isMarked : List Bool → ℕ → Bool

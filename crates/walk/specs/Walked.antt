@@ -11,8 +11,8 @@ use Rattle.stores.specs.Rules.{handlingAnswer, standingAnswer, aspirationAnswer
 use Rattle.vehicles.specs.Rules.{emissionCount}
 use Rattle.vehicles.specs.declared.rule.GroupAnswer.{GroupAnswer}
 use Rattle.slots.specs.declared.header.Header.{Header}
-use Rattle.slots.specs.declared.store.Store.{Store}
-use Rattle.slots.specs.declared.store.Store.the-variants.{Handling, Standing, Aspiration}
+use Rattle.slots.specs.declared.store.StoreRecord.{StoreRecord}
+use Rattle.slots.specs.declared.store.StoreRecord.the-variants.{Handling, Standing, Aspiration}
 use Rattle.slots.specs.declared.store.StoreRead.{StoreRead}
 use Rattle.slots.specs.declared.store.StoreRead.the-variants.{Record, WrongKind, OutOfRange}
 use Rattle.slot_file.specs.Sources.{groupAt, storeAt, headerAt, temperaturesAt, Chains}
@@ -66,11 +66,11 @@ pub record GroupsEnded (s : List ℕ) (summing : Bool) (sources reached : List B
   pub passed : GroupsPassed s summing sources reached totals holder 0 counts
 
 pub record GroupsWalked (s : List ℕ) (summing : Bool) (sources reached : List Bool) (totals : List ℕ) (r : Walked) : Type 0 where
-  pub refused : (r .verdict .number ≡ 0 → ⊥) → Refuses s (r .verdict .number) (r .verdict .slot)
+  pub refuses : (r .verdict .number ≡ 0 → ⊥) → Refuses s (r .verdict .number) (r .verdict .slot)
   pub ended : r .verdict .number ≡ 0 → GroupsEnded s summing sources reached totals (r .counts)
 
 -- what a store record's rule answers
-unfoldable pub recordEmission : Store → Emission
+unfoldable pub recordEmission : StoreRecord → Emission
 recordEmission (Handling h) = handlingAnswer h .emission
 recordEmission (Standing s) = standingAnswer s .emission
 recordEmission (Aspiration a) = aspirationAnswer a .emission
@@ -104,7 +104,7 @@ pub record StoresEnded (s : List ℕ) (summing : Bool) (reached : List Bool) (to
   pub passed : StoresPassed s summing sources reached totals holder 0 (r .counts)
 
 pub record StoresWalked (s : List ℕ) (summing : Bool) (reached : List Bool) (totals : List ℕ) (r : Walked) : Type 0 where
-  pub refused : (r .verdict .number ≡ 0 → ⊥) → Refuses s (r .verdict .number) (r .verdict .slot)
+  pub refuses : (r .verdict .number ≡ 0 → ⊥) → Refuses s (r .verdict .number) (r .verdict .slot)
   pub ended : r .verdict .number ≡ 0 → StoresEnded s summing reached totals r
 
 -- a file that nothing is refused of
@@ -116,5 +116,5 @@ pub record FileAccepted (s : List ℕ) (summing : Bool) (totals : List ℕ) (r :
   pub holds : Holds s summing sources reached totals (r .counts) c
 
 pub record FileWalked (s : List ℕ) (summing : Bool) (totals : List ℕ) (r : Walked) : Type 0 where
-  pub refused : (r .verdict .number ≡ 0 → ⊥) → Refuses s (r .verdict .number) (r .verdict .slot)
-  pub accepted : r .verdict .number ≡ 0 → FileAccepted s summing totals r
+  pub refuses : (r .verdict .number ≡ 0 → ⊥) → Refuses s (r .verdict .number) (r .verdict .slot)
+  pub passes : r .verdict .number ≡ 0 → FileAccepted s summing totals r

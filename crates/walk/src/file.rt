@@ -1,14 +1,14 @@
 // A whole file: its check and its answer, by one walk over its chains.
 ghost use mathlib.Core.Path.{_≡_};
 ghost use mathlib.Core.List.{[]};
-ghost use Rattle.slot_file.specs.Walk.{verdict, told};
+ghost use Rattle.slot_file.specs.Walk.{outcome, told};
 ghost use Rattle.slot_file.specs.Figures as figures;
 ghost use Rattle.slot_file.specs.Parts.{marksOf};
 ghost use Rattle.totals.specs.Totals.{noNumbers};
 ghost use Rattle.walk.specs.Walked.{FileWalked};
-use super::groups;
+use super::group_chain;
 use super::questions;
-use super::records;
+use super::store_chain;
 use super::walked;
 use super::walked::Walked;
 use slot_file::Answer;
@@ -39,12 +39,20 @@ fn walk_file(file: &[u8], totals: &mut [u64], summing: bool) -> Walked
     }
     let mut sources = no_marks();
     let mut reached = no_marks();
-    let groups = groups::walk_groups(file, &mut sources, &mut reached, totals, h, summing);
+    let groups = group_chain::walk_groups(file, &mut sources, &mut reached, totals, h, summing);
     let verdict = groups.verdict;
     if verdict.number != 0 {
         return groups;
     }
-    let both = records::walk_stores(file, &mut sources, &mut reached, totals, h, summing, groups);
+    let both = store_chain::walk_stores(
+        file,
+        &mut sources,
+        &mut reached,
+        totals,
+        h,
+        summing,
+        groups,
+    );
     let verdict = both.verdict;
     if verdict.number != 0 {
         return both;
@@ -58,7 +66,7 @@ fn walk_file(file: &[u8], totals: &mut [u64], summing: bool) -> Walked
 
 // Whether a file is accepted, and else the number and the slot that it is refused by.
 pub fn check(file: &[u8]) -> Verdict
-    ensures { λ r. ⌜ r ≡ told (verdict (now (file .entry))) ⌝ }
+    ensures { λ r. ⌜ r ≡ told (outcome (now (file .entry))) ⌝ }
 {
     let mut totals = totals::none();
     let walked = walk_file(file, &mut totals, false);

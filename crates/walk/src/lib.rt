@@ -1,9 +1,9 @@
 // The walk over a slot file: its check, and its answer.
 pub mod file;
-mod groups;
+mod group_chain;
 mod questions;
-mod records;
 mod rows;
+mod store_chain;
 mod walked;
 
 pub use file::answer;

@@ -11,7 +11,7 @@ returns c =
     let b = c .before .before .before .before .before .before .before in
     let out = b .before .before .before .before .before .args .out .now in
     let e = b .list .ensures in (
-      ap (λ (l : Listed). l .length) e,
+      ap (λ (l : Listed). l .written) e,
       ap (λ (l : Listed). l .buffer) e,
       c .before .before .give-answer .ensures .1 ∙ ap (λ (l : Listed). into (numbersOf (l .answer)) out) e,
     )

@@ -3,7 +3,7 @@ use native.Mathlib.Omega.{arith}
 use mathlib.Core.Path.{refl, sym, _∙_}
 use Rattle.slot_file.specs.Questions.{accepted, refused}
 use Rattle.slot_file.specs.Figures.{summed}
-use Rattle.slot_file.proofs.Verdicts.{only}
+use Rattle.slot_file.proofs.Outcomes.{only}
 use Rattle.slot_file.proofs.Numbers.{refused-answer}
 use Rattle.slot_file.proofs.Agreement.{accepted-answer, summed-counts}
 use Rattle.walk.proofs.FileFigures.{file-figures}
@@ -15,14 +15,14 @@ returns c =
     let w = c .before .before .before .before .before in
     let v = w .walk-file .result .verdict in
     let s = w .before .before .before .before .args .file .now in
-    c .refusal .ensures ∙ sym (refused-answer s (v .number) (v .slot) (only s (refused (v .number) (v .slot)) (w .walk-file .ensures .refused (c .before .if1 .taken))) .0)
+    c .refusal .ensures ∙ sym (refused-answer s (v .number) (v .slot) (only s (refused (v .number) (v .slot)) (w .walk-file .ensures .refuses (c .before .if1 .taken))) .0)
 
 returns-2 : tie.Need-returns-2
 unfolding summed
 returns-2 c =
     let w = c .before .before .before .before .before .before .before .before .before in
     let s = w .before .before .before .before .args .file .now in
-    let a = w .walk-file .ensures .accepted (c .before .before .before .before .before .if1 .left) in
+    let a = w .walk-file .ensures .passes (c .before .before .before .before .before .if1 .left) in
     let f = c .before .before .before .rounded .ensures ∙ file-figures s (a .c) (a .accepts) _ (a .holds .sums-are refl) in
     let n = a .holds .counts-are ∙ sym (summed-counts s (a .c)) in
     (λ i. record { number = 0; slot = 0; annual = f i .annual; peak = f i .peak; counts = n i })

@@ -2,12 +2,12 @@
 use native.Mathlib.Omega.{arith}
 use Rattle.slot_file.specs.Questions.{lastAsks}
 use Rattle.slot_file.specs.Meaning.{at-head, at-last}
-use Rattle.slot_file.proofs.Verdicts.{sized}
+use Rattle.slot_file.proofs.Outcomes.{sized}
 use Rattle.walk.proofs.file.walk_file.Statement.{statement}
 use Rattle.walk.proofs.file.walk_file.Tie as tie
 
 returns : tie.Need-returns
-returns c = record { refused = λ z. at-head (c .before .before .before .ask-head .ensures .first z); accepted = λ y. absurd (c .before .if1 .taken y) }
+returns c = record { refuses = λ z. at-head (c .before .before .before .ask-head .ensures .first z); passes = λ y. absurd (c .before .if1 .taken y) }
 
 walk-groups-requires : tie.Need-walk-groups-requires
 walk-groups-requires c κs =
@@ -21,7 +21,7 @@ walk-groups-requires c κs =
     }
 
 returns-2 : tie.Need-returns-2
-returns-2 c = record { refused = c .before .before .before .before .before .walk-groups .ensures .refused; accepted = λ y. absurd (c .if2 .taken y) }
+returns-2 c = record { refuses = c .before .before .before .before .before .walk-groups .ensures .refuses; passes = λ y. absurd (c .if2 .taken y) }
 
 walk-stores-requires : tie.Need-walk-stores-requires
 walk-stores-requires c κs =
@@ -34,7 +34,7 @@ walk-stores-requires c κs =
     }
 
 returns-3 : tie.Need-returns-3
-returns-3 c = record { refused = c .before .before .before .before .before .walk-stores .ensures .refused; accepted = λ y. absurd (c .if3 .taken y) }
+returns-3 c = record { refuses = c .before .before .before .before .before .walk-stores .ensures .refuses; passes = λ y. absurd (c .if3 .taken y) }
 
 ask-reached-requires : tie.Need-ask-reached-requires
 ask-reached-requires c κs = let b = c .before .before .before .before .before .before .before .before .before .before .before .before .before .before .before .before .before .before .before .before .before .before in sized _ (b .before .before .ask-head .ensures .all (b .if1 .left))
@@ -47,8 +47,8 @@ returns-4 c =
     let p = c .before .before .before .before .before .before .before .before .walk-stores .ensures .ended (c .before .before .before .if3 .left) .passed in
     let t = c .ask-reached .ensures _ (p .holds .reached-are) in
     record {
-      refused = λ z. at-last (p .c) h (p .group-chain) (p .chain) (t .first z);
-      accepted = λ y. record {
+      refuses = λ z. at-last (p .c) h (p .group-chain) (p .chain) (t .first z);
+      passes = λ y. record {
         c = p .c;
         accepts = record { head = h; groups = p .group-chain; stores = p .chain; last = t .all y };
         sources = _;

@@ -2,8 +2,8 @@
 use native.Mathlib.Omega.{arith}
 use mathlib.Core.Path.{sym, ap, _∙_}
 use Rattle.walk.specs.Walked.{storeEmission}
-use Rattle.walk.proofs.records.store_emission.Statement.{statement}
-use Rattle.walk.proofs.records.store_emission.Tie as tie
+use Rattle.walk.proofs.store_chain.store_emission.Statement.{statement}
+use Rattle.walk.proofs.store_chain.store_emission.Tie as tie
 
 pub store-emission-spec : {M : Type 1} → statement M
 unfolding storeEmission

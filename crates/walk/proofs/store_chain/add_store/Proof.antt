@@ -4,8 +4,8 @@ use mathlib.Core.Path.{refl, ap, _∙_}
 use Rattle.sums.proofs.Choices.{yes, no}
 use Rattle.totals.specs.Totals.{plusIn}
 use Rattle.walk.specs.Walked.{plusStore}
-use Rattle.walk.proofs.records.add_store.Statement.{statement}
-use Rattle.walk.proofs.records.add_store.Tie as tie
+use Rattle.walk.proofs.store_chain.add_store.Statement.{statement}
+use Rattle.walk.proofs.store_chain.add_store.Tie as tie
 
 returns : tie.Need-returns
 unfolding plusStore

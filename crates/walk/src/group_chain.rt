@@ -88,7 +88,7 @@ pub(crate) fn walk_groups(
 {
     let temperatures = h.temperatures;
     let mut holder = 0;
-    let mut link = h.groups;
+    let mut link = h.heads.groups;
     let mut counts = walked::no_counts();
     while link != 0 {
         let step = step_group(file, sources, reached, holder, link);

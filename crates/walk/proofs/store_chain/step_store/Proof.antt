@@ -6,8 +6,8 @@ use Rattle.slot_file.specs.Questions.{lastOf, sourcesOf, storeAsks}
 use Rattle.slot_file.specs.Parts.{marksOf}
 use Rattle.walk.specs.Told.{Told}
 use Rattle.walk.proofs.StoreAsks.{store-told}
-use Rattle.walk.proofs.records.step_store.Statement.{statement}
-use Rattle.walk.proofs.records.step_store.Tie as tie
+use Rattle.walk.proofs.store_chain.step_store.Statement.{statement}
+use Rattle.walk.proofs.store_chain.step_store.Tie as tie
 
 returns : tie.Need-returns
 returns c =

@@ -6,8 +6,8 @@ use Rattle.vehicles.specs.Rules.{emissionCount}
 use Rattle.vehicles.specs.declared.rule.GroupAnswer.{GroupAnswer}
 use Rattle.totals.specs.Totals.{plusToIn}
 use Rattle.walk.specs.Walked.{plusGroup}
-use Rattle.walk.proofs.groups.add_group.Statement.{statement}
-use Rattle.walk.proofs.groups.add_group.Tie as tie
+use Rattle.walk.proofs.group_chain.add_group.Statement.{statement}
+use Rattle.walk.proofs.group_chain.add_group.Tie as tie
 
 returns : tie.Need-returns
 unfolding plusGroup

@@ -10,8 +10,8 @@ use super::questions;
 use super::walked::Walked;
 use slot_file::MOST_SLOTS;
 use slots::Header;
-use slots::Store;
 use slots::StoreRead;
+use slots::StoreRecord;
 use sums::Emission;
 use sums::Verdict;
 
@@ -62,19 +62,19 @@ fn step_store(
     }
 }
 
-fn record_emission(store: Store) -> Emission
+fn record_emission(store: StoreRecord) -> Emission
     ensures { λ r. ⌜ r ≡ recordEmission store ⌝ }
 {
     match store {
-        Store::Handling(h) => {
+        StoreRecord::Handling(h) => {
             let answer = stores::handling_emission(h);
             answer.emission
         }
-        Store::Standing(s) => {
+        StoreRecord::Standing(s) => {
             let answer = stores::standing_emission(s);
             answer.emission
         }
-        Store::Aspiration(a) => {
+        StoreRecord::Aspiration(a) => {
             let answer = stores::aspiration_emission(a);
             answer.emission
         }
@@ -115,7 +115,7 @@ pub(crate) fn walk_stores(
 {
     let mut counts = start.counts;
     let mut holder = 0;
-    let mut link = h.stores;
+    let mut link = h.heads.stores;
     while link != 0 {
         let step = step_store(file, sources, reached, holder, link);
         let verdict = step.verdict;

@@ -12,13 +12,13 @@ use Rattle.slots.specs.declared.header.Header.{Header}
 use Rattle.slot_file.specs.Sources.{temperaturesAt}
 use Rattle.slot_file.specs.Questions.{mostSlots, reachedBy, groupsSoFar}
 use Rattle.slot_file.specs.Meaning.{at-group}
-use Rattle.slot_file.proofs.Verdicts.{bytes-most}
+use Rattle.slot_file.proofs.Outcomes.{bytes-most}
 use Rattle.totals.specs.Totals.{Sums}
 use Rattle.totals.proofs.Sums.{no-sums}
 use Rattle.walk.specs.Walked.{plusGroup, GroupsPassed}
 use Rattle.walk.proofs.Passing.{groups-few, groups-ended, group-passed}
-use Rattle.walk.proofs.groups.walk_groups.Statement.{statement}
-use Rattle.walk.proofs.groups.walk_groups.Tie as tie
+use Rattle.walk.proofs.group_chain.walk_groups.Statement.{statement}
+use Rattle.walk.proofs.group_chain.walk_groups.Tie as tie
 
 abbrev Inv-loop : tie.InvT-loop
 Inv-loop file sources₀ reached₀ totals₀ summing temperatures holder₀ link₀ counts₀ sources reached totals holder link counts =
@@ -33,7 +33,7 @@ loop-holds c =
     let b = c .before .before .before .before .pre in
     record {
       gs = [];
-      chain = record { chain = ap (λ (h : Header). h .groups) (b .header); good = tt };
+      chain = record { chain = ap (λ (h : Header). h .heads .groups) (b .header); good = tt };
       holder-is = refl;
       holds = record {
         counts-are = c .no-counts .ensures;
@@ -58,7 +58,7 @@ returns c =
     let p = b .loop .inv in
     let t = c .before .before .before .step-group .ensures in
     record {
-      refused = λ z. at-group (groupsSoFar (p .gs)) (b .loop .link) (b .before .before .before .before .before .pre .head) (p .chain) (c .before .before .before .before .before .before .loop-test .taken)
+      refuses = λ z. at-group (groupsSoFar (p .gs)) (b .loop .link) (b .before .before .before .before .before .pre .head) (p .chain) (c .before .before .before .before .before .before .loop-test .taken)
           (t .told (groupsSoFar (p .gs)) (p .holds .sources-are) (p .holder-is) .first z);
       ended = λ y. absurd (c .if1 .taken y);
     }
@@ -91,7 +91,7 @@ returns-2 : tie.Need-returns-2 Inv-loop μ-loop
 returns-2 c =
     let b = c .before .before in
     record {
-      refused = λ z. absurd (z (ap (λ (v : Verdict). v .number) (c .accept .ensures)));
+      refuses = λ z. absurd (z (ap (λ (v : Verdict). v .number) (c .accept .ensures)));
       ended = λ _. groups-ended _ (b .before .before .before .before .before .pre .head) (b .loop .inv) (c .before .loop-test .left);
     }
 

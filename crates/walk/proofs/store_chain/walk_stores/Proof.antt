@@ -7,11 +7,11 @@ use Rattle.sums.specs.declared.answer.Verdict.{Verdict}
 use Rattle.slots.specs.declared.header.Header.{Header}
 use Rattle.slot_file.specs.Questions.{mostSlots, groupsSoFar, storesSoFar}
 use Rattle.slot_file.specs.Meaning.{at-store}
-use Rattle.slot_file.proofs.Verdicts.{bytes-most}
+use Rattle.slot_file.proofs.Outcomes.{bytes-most}
 use Rattle.walk.specs.Walked.{StoresPassed}
 use Rattle.walk.proofs.Passing.{stores-few, stores-ended, store-passed}
-use Rattle.walk.proofs.records.walk_stores.Statement.{statement}
-use Rattle.walk.proofs.records.walk_stores.Tie as tie
+use Rattle.walk.proofs.store_chain.walk_stores.Statement.{statement}
+use Rattle.walk.proofs.store_chain.walk_stores.Tie as tie
 
 abbrev Inv-loop : tie.InvT-loop
 Inv-loop file sources₀ reached₀ totals₀ summing counts₀ holder₀ link₀ sources reached totals counts holder link =
@@ -27,7 +27,7 @@ loop-holds c =
     record {
       c = groupsSoFar (p .gs);
       group-chain = p .chain;
-      chain = record { chain = ap (λ (h : Header). h .stores) (b .header); good = tt };
+      chain = record { chain = ap (λ (h : Header). h .heads .stores) (b .header); good = tt };
       holder-is = refl;
       holds = p .holds;
     }
@@ -46,7 +46,7 @@ returns c =
     let p = b .loop .inv in
     let t = c .before .before .before .step-store .ensures in
     record {
-      refused = λ z. at-store (p .c) (b .loop .link) (b .before .before .before .before .pre .head) (p .group-chain) (p .chain)
+      refuses = λ z. at-store (p .c) (b .loop .link) (b .before .before .before .before .pre .head) (p .group-chain) (p .chain)
           (c .before .before .before .before .before .before .loop-test .taken) (t .told (storesSoFar (p .c) (p .c .stores)) (p .holds .sources-are) (p .holder-is) .first z);
       ended = λ y. absurd (c .if1 .taken y);
     }
@@ -75,7 +75,7 @@ returns-2 : tie.Need-returns-2 Inv-loop μ-loop
 returns-2 c =
     let b = c .before .before in
     record {
-      refused = λ z. absurd (z (ap (λ (v : Verdict). v .number) (c .accept .ensures)));
+      refuses = λ z. absurd (z (ap (λ (v : Verdict). v .number) (c .accept .ensures)));
       ended = λ _. stores-ended _ (b .before .before .before .before .pre .head) (b .loop .inv) (c .before .loop-test .left);
     }
 

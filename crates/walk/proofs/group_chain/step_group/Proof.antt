@@ -6,8 +6,8 @@ use Rattle.slots.specs.declared.group.GroupRead.{GroupRead}
 use Rattle.slot_file.specs.Sources.{groupAt}
 use Rattle.walk.proofs.GroupAsks.{link-told, link-refused, eleven-told}
 use Rattle.walk.proofs.Telling.{asked-zero}
-use Rattle.walk.proofs.groups.step_group.Statement.{statement}
-use Rattle.walk.proofs.groups.step_group.Tie as tie
+use Rattle.walk.proofs.group_chain.step_group.Statement.{statement}
+use Rattle.walk.proofs.group_chain.step_group.Tie as tie
 
 returns : tie.Need-returns
 returns c =

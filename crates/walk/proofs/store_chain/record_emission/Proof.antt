@@ -3,8 +3,8 @@ use native.Mathlib.Omega.{arith}
 use mathlib.Core.Path.{sym, ap, _∙_}
 use Rattle.stores.specs.declared.rules.StoreAnswer.{StoreAnswer}
 use Rattle.walk.specs.Walked.{recordEmission}
-use Rattle.walk.proofs.records.record_emission.Statement.{statement}
-use Rattle.walk.proofs.records.record_emission.Tie as tie
+use Rattle.walk.proofs.store_chain.record_emission.Statement.{statement}
+use Rattle.walk.proofs.store_chain.record_emission.Tie as tie
 
 pub record-emission-spec : {M : Type 1} → statement M
 unfolding recordEmission

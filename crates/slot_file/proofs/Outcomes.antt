@@ -1,4 +1,4 @@
--- A verdict means what the questions say, and only that verdict does. Each chain is walked by `Chains.walks`; what is asked of its slots keeps them different
+-- A outcome means what the questions say, and only that outcome does. Each chain is walked by `Chains.walks`; what is asked of its slots keeps them different
 -- and below the slot count, so the walk never runs out. Assumes nothing.
 use Prim.Native.Nat.{ℕ, suc, _%_, _<_, _≤_}
 use mathlib.Core.Path.{_≡_, refl, subst, _∙_}
@@ -14,8 +14,8 @@ use Rattle.sums.proofs.Choices.{left, right}
 use Rattle.slots.specs.Bytes.{slotSize, slotOf}
 use Rattle.slots.specs.Layout.{nextOf}
 use Rattle.slot_file.specs.Sources.{headerAt, Chains}
-use Rattle.slot_file.specs.Questions.{mostSlots, mostBytes, Question, slotCount, headAsks, member, linkAsks, sourcesOf, groupsSoFar, storesSoFar, groupAsks, storeAsks, lastAsks, Verdict, accepted, refused}
-use Rattle.slot_file.specs.Walk.{first, chain, afterAll, storeWalk, groupWalk, verdict}
+use Rattle.slot_file.specs.Questions.{mostSlots, mostBytes, Question, slotCount, headAsks, member, linkAsks, sourcesOf, groupsSoFar, storesSoFar, groupAsks, storeAsks, lastAsks, Outcome, accepted, refused}
+use Rattle.slot_file.specs.Walk.{first, chain, afterAll, storeWalk, groupWalk, outcome}
 use Rattle.slot_file.specs.Meaning.{AllYes, Reached, Chain, Good, Groups, Accepts, at-head, at-group, at-store, at-last, Means}
 use Rattle.slot_file.proofs.Asking.{first-yes, first-no, first-both}
 use Rattle.slot_file.proofs.Marks.{Different, different-short}
@@ -49,7 +49,7 @@ stores-differ s a (k ∷ b) from link d c g =
     (omega arith, ltb-true k (slotCount s) (g .0 .0), not-true (member k (sourcesOf (storesSoFar a b))) (g .0 .1 .0), stores-differ s a b from k d (c .2) (g .1))
 
 -- one link of a chain, and its end
-module _ (asks : List ℕ → ℕ → List Question) (end : List ℕ → Verdict) (s : List ℕ) where
+module _ (asks : List ℕ → ℕ → List Question) (end : List ℕ → Outcome) (s : List ℕ) where
   turn : (n : ℕ) (b : List ℕ) (k : ℕ) → (k ≡ 0 → ⊥) → chain asks end (suc n) s b k ≡ first (asks b k) (chain asks end n s (k ∷ b) (nextOf (slotOf s k)))
   unfolding chain if_then_else
   turn n b k z = simp (ne-eqb k 0 z)
@@ -62,27 +62,27 @@ module _ (asks : List ℕ → ℕ → List Question) (end : List ℕ → Verdict
   walked from short = walks asks s from (λ n b k. chain asks end n s b k) end turn stop short
 
 module _ (s : List ℕ) (h : AllYes (headAsks s)) where
-  group-walk : Walks (λ (b : List ℕ). groupAsks s (groupsSoFar b)) s (headerAt s .groups) (groupWalk s) (λ b. storeWalk s (groupsSoFar b))
+  group-walk : Walks (λ (b : List ℕ). groupAsks s (groupsSoFar b)) s (headerAt s .heads .groups) (groupWalk s) (λ b. storeWalk s (groupsSoFar b))
   unfolding groupWalk
   group-walk =
-      walked (λ b. groupAsks s (groupsSoFar b)) (λ b. storeWalk s (groupsSoFar b)) s (headerAt s .groups)
+      walked (λ b. groupAsks s (groupsSoFar b)) (λ b. storeWalk s (groupsSoFar b)) s (headerAt s .heads .groups)
       (λ b link w. different-short (slotCount s) b (sized s h) (groups-differ s b _ link (w .chain) (w .good)))
 
-  store-walk : (c : Chains) → Groups s c 0 → Walks (λ (b : List ℕ). storeAsks s (storesSoFar c b)) s (headerAt s .stores) (storeWalk s c) (λ b. afterAll s (storesSoFar c b))
+  store-walk : (c : Chains) → Groups s c 0 → Walks (λ (b : List ℕ). storeAsks s (storesSoFar c b)) s (headerAt s .heads .stores) (storeWalk s c) (λ b. afterAll s (storesSoFar c b))
   unfolding storeWalk
   store-walk c v =
-      walked (λ b. storeAsks s (storesSoFar c b)) (λ b. afterAll s (storesSoFar c b)) s (headerAt s .stores)
+      walked (λ b. storeAsks s (storesSoFar c b)) (λ b. afterAll s (storesSoFar c b)) s (headerAt s .heads .stores)
       (λ b link w.
       let d = different-short (slotCount s) (sourcesOf (storesSoFar c b)) (sized s h) (stores-differ s c b _ link (groups-differ s (c .groups) _ 0 (v .chain) (v .good)) (w .chain) (w .good)) in
       omega (arith, length-append b (c .groups)))
 
-  headed : verdict s ≡ groupWalk s
-  unfolding verdict
+  headed : outcome s ≡ groupWalk s
+  unfolding outcome
   headed = first-yes (headAsks s) (groupWalk s) h
 
--- the verdict means what the questions say
-pub says : (s : List ℕ) → Means s (verdict s)
-unfolding verdict
+-- the outcome means what the questions say
+pub says : (s : List ℕ) → Means s (outcome s)
+unfolding outcome
 says s =
     first-both (Means s) (headAsks s) (groupWalk s) (λ n k f. at-head f) (λ h.
     group-walk s h .both (Means s) (λ b k w z n j f. at-group (groupsSoFar b) k h w z f) (λ gs v.
@@ -91,9 +91,9 @@ says s =
     first-both (Means s) (lastAsks s c) (accepted c) (λ n k f. at-last c h v w f) (λ a.
     record { head = h; groups = v; stores = w; last = a }))))
 
--- and only this verdict does
-pub only : (s : List ℕ) (v : Verdict) → Means s v → verdict s ≡ v
-unfolding verdict storeWalk
+-- and only this outcome does
+pub only : (s : List ℕ) (v : Outcome) → Means s v → outcome s ≡ v
+unfolding outcome storeWalk
 only s (refused n k) (at-head f) = first-no (headAsks s) _ n k f
 only s (refused n k) (at-group c j h v z f) = headed s h ∙ group-walk s h .at-no (c .groups) j v z n k f
 only s (refused n k) (at-store c j h v w z f) = headed s h ∙ group-walk s h .at-end (c .groups) v ∙ store-walk s h c v .at-no (c .stores) j w z n k f
@@ -104,12 +104,12 @@ only s (accepted c) a =
     ∙ first-yes (lastAsks s c) (accepted c) (a .last)
 
 -- ACCEPTED EXACTLY WHEN every question is answered yes, and refused exactly by the first that is answered no
-pub exactly-when : (s : List ℕ) (v : Verdict) → (verdict s ≡ v) ↔ Means s v
+pub exactly-when : (s : List ℕ) (v : Outcome) → (outcome s ≡ v) ↔ Means s v
 exactly-when s v = (λ e. subst (Means s) e (says s), only s v)
 
 -- the chains of an accepted file are its only ones
 pub one-way : (s : List ℕ) (c d : Chains) → Accepts s c → Accepts s d → c ≡ d
 one-way s c d a b =
-    let g = one-chain s (headerAt s .groups) (c .groups) (d .groups) (a .groups .chain) (b .groups .chain) in
-    let k = one-chain s (headerAt s .stores) (c .stores) (d .stores) (a .stores .chain) (b .stores .chain) in
+    let g = one-chain s (headerAt s .heads .groups) (c .groups) (d .groups) (a .groups .chain) (b .groups .chain) in
+    let k = one-chain s (headerAt s .heads .stores) (c .stores) (d .stores) (a .stores .chain) (b .stores .chain) in
     λ i. record { groups = g i; stores = k i }
