@@ -354,9 +354,10 @@ def store_calls():
     return calls
 
 
+# All numbers of a diesel group differ: category 3, fuel 2, flags 1
 DAYS = (17, 20, 21, 22, 18, 16, 23, 25, 24, 19, 26, 27)
 PETROL_GROUP = replace(FLEET, days=DAYS)
-DIESEL_GROUP = replace(DIESEL_FLEET, days=DAYS, category=papers.BUS, controlled=False, heated=True)
+DIESEL_GROUP = replace(DIESEL_FLEET, days=DAYS, category=papers.BUS)
 
 GROUP_REFUSED = dict(
     category=(0, 4),
@@ -427,7 +428,8 @@ def length_calls():
     both = (("days", 13), ("temperatures", 11))
     calls.append(Call("13 days, 11 temperatures", "group", g, size, lengths=both))
     wrong = (("distances", 3),)
-    calls.append(Call("3 distances, share 101", "group", replace(g, share=101), size, lengths=wrong))
+    far = replace(g, share=101)
+    calls.append(Call("3 distances, share 101", "group", far, size, lengths=wrong))
     calls.append(Call("3 distances, 31 lent", "group", g, size - 1, lengths=wrong))
     return calls
 
@@ -535,6 +537,33 @@ def assert_exchanges(every):
                 assert seen, (function, one, other)
 
 
+def with_slices(g, distances, numbers):
+    """The group with these distances and these 42 coefficients."""
+    rows = [numbers[at : at + 7] for at in range(0, len(numbers), 7)]
+    names = ("out_nearest", "out_farthest", "in_nearest", "in_farthest")
+    coefficients = tuple(papers.Coefficients(row[0:3], row[3:6], row[6]) for row in rows)
+    return replace(g, coefficients=coefficients, **dict(zip(names, distances)))
+
+
+def assert_slices():
+    """Each coefficient exchanged with the next one, and the ways out with those in, change what a
+    petrol or a diesel group gives. The nearest and the farthest are added, so these are alike."""
+    groups = (PETROL_GROUP, DIESEL_GROUP)
+    before = [papers.group(g) for g in groups]
+    for at in range(NUMBERS["COEFFICIENTS"] - 1):
+        after = []
+        for g in groups:
+            values = slices(g)
+            k = list(values["coefficients"])
+            k[at], k[at + 1] = k[at + 1], k[at]
+            after.append(papers.group(with_slices(g, values["distances"], tuple(k))))
+        assert after != before, at
+    for g, answer in zip(groups, before):
+        values = slices(g)
+        ways = values["distances"][2:] + values["distances"][:2]
+        assert papers.group(with_slices(g, ways, values["coefficients"])) != answer
+
+
 def assert_reached(every):
     counts = Counter(call.function for call in every)
     assert all(counts[function] >= 15 for function in FUNCTIONS), counts
@@ -551,6 +580,7 @@ def main():
     every = all_calls()
     assert_codes()
     assert_exchanges(every)
+    assert_slices()
     assert_reached(every)
     write = {
         "stdin": lambda: b"".join(map(record, every)),

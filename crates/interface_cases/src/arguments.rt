@@ -53,15 +53,27 @@ pub(crate) fn i16s_at(all: &[u8; ROOM], at: usize, to: &mut [i16])
     }
 }
 
-// A number of two bytes, and of four, the low one first.
-pub(crate) fn word(low: u8, high: u8) -> usize
+// The function's number, how many numbers and bytes are lent, and the length of the arguments.
+pub(crate) struct Head {
+    pub(crate) function: u8,
+    pub(crate) numbers: usize,
+    pub(crate) bytes: usize,
+    pub(crate) length: usize,
+}
+
+pub(crate) fn head_of(h: &[u8; 44]) -> Head {
+    Head {
+        function: h[32],
+        numbers: word(h[34], h[35]),
+        bytes: word(h[36], h[37]),
+        length: word(h[40], h[41]) + 65_536 * word(h[42], h[43]),
+    }
+}
+
+fn word(low: u8, high: u8) -> usize
     ensures { λ r. ⌜ r < 65536 ⌝ }
 {
     wide(low) + 256 * wide(high)
-}
-
-pub(crate) fn length(a: u8, b: u8, c: u8, d: u8) -> usize {
-    word(a, b) + 65_536 * word(c, d)
 }
 
 fn wide(x: u8) -> usize

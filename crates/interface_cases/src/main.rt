@@ -20,12 +20,13 @@ mod arguments;
 mod calls;
 mod printing;
 
+use arguments::Head;
 use arguments::ROOM;
 
 // Lends the front of both memories to the call, and prints them whole after it.
-fn run(head: &[u8; 44], all: &[u8; ROOM], length: usize) {
-    let lent = arguments::word(head[34], head[35]);
-    let lent_bytes = arguments::word(head[36], head[37]);
+fn run(head: Head, all: &[u8; ROOM]) {
+    let lent = head.numbers;
+    let lent_bytes = head.bytes;
     let mut memory = [7_777; 40];
     let mut buffer = [126; 600];
     let numbers: &mut [u64] = &mut memory;
@@ -33,16 +34,15 @@ fn run(head: &[u8; 44], all: &[u8; ROOM], length: usize) {
     if lent <= numbers.len() {
         if lent_bytes <= bytes.len() {
             printing::number(calls::call(
-                head[32],
+                head,
                 all,
-                length,
                 &mut bytes[0..lent_bytes],
                 &mut numbers[0..lent],
             ));
         }
     }
     printing::numbers(numbers);
-    if head[32] == 3 {
+    if head.function == 3 {
         printing::bytes(bytes);
     }
 }
@@ -62,12 +62,12 @@ fn next_case() -> bool {
     if io::read_full(0, &mut head) < 44 {
         return false;
     }
-    let length = arguments::length(head[40], head[41], head[42], head[43]);
-    if !read_front(&mut all, length) {
+    let h = arguments::head_of(&head);
+    if !read_front(&mut all, h.length) {
         return false;
     }
     printing::label(&head);
-    run(&head, &all, length);
+    run(h, &all);
     true
 }
 
