@@ -1,6 +1,5 @@
 #!/usr/bin/env bash
-# All tests: the gate, the library by its C header, the tests of the Rust workspace, the library against the plain calculation of rust/plain, and the program on input and output that the
-# system makes hard:
+# All tests: the gate, the library by its C header, the tests of the Rust workspace, the library against the plain calculation of rust/plain, and the program under valgrind:
 #     tests/all.sh [--after-gate] [SEED]
 # --after-gate leaves the gate out, where it has just passed. SEED, else 1, is that of the files and sources that are compared.
 set -eu
@@ -32,7 +31,6 @@ cc -std=c11 -Wall -Wextra -Werror -Iinclude tests/interface.c target/staticlib/l
 target/interface examples/tikhvin.slots examples/tikhvin.listing
 cargo test --release --offline --workspace --manifest-path rust/Cargo.toml
 cargo run --release --offline --manifest-path rust/Cargo.toml -p compare -- "$seed" 200000
-python3 tests/hard_input.py target/bin/inventory
 if command -v valgrind >/dev/null; then
     python3 tests/hard_input.py target/bin/inventory --valgrind
 else

@@ -3,8 +3,8 @@
     python3 tests/file_cases.py stdin
     python3 tests/file_cases.py stdout
 
-The files are those of file_edges.py and file_mixes.py, and what must be printed is worked out by
-slot_file.py.
+The files are those of file_edges.py, file_faults.py and file_mixes.py, and what must be printed is
+worked out by slot_file.py.
 
 The input is one record after another: 4 bytes, the length n of the file; 2 bytes, a number b; the n
 bytes of the file. Numbers are little-endian. Where b is 65,535 the program prints what the program
@@ -24,6 +24,7 @@ from fractions import Fraction
 
 import cases
 import file_edges
+import file_faults
 import file_mixes
 import files
 import inventory
@@ -72,7 +73,7 @@ def textbook():
 
 
 def all_files():
-    edges = file_edges.edge_files()
+    edges = file_edges.edge_files() + file_faults.faulty_pairs()
     return edges + textbook() + file_mixes.mixed_files() + lent() + file_mixes.full()
 
 
@@ -190,7 +191,7 @@ def list_numbers(every):
 
 
 def assert_reached(every):
-    assert 3_000 <= len(every) <= 5_000, len(every)
+    assert 3_000 <= len(every) <= 6_000, len(every)
     slots = print_refusals(every)
     for number in range(1, 13):
         assert len(slots[number]) >= 20, number

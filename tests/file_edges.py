@@ -226,6 +226,7 @@ class Fault:
     number: int
     slot: int
     changes: dict
+    hidden: frozenset = frozenset()  # slots that no chain leads to any more
 
 
 def header_faults(f, n):
