@@ -39,7 +39,7 @@ fn lend(file: &[u8], buffer: &mut [u8]) {
     io::write_all(1, b"listed");
     number(answer.number as u64);
     number(answer.slot as u64);
-    number(listed.length as u64);
+    number(listed.written as u64);
     line_end();
     io::write_all(1, buffer);
     line_end();

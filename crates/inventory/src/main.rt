@@ -13,9 +13,12 @@ fn show(file: &[u8]) {
 // One byte more than the longest inventory file.
 const ROOM: usize = slots::SLOT_SIZE * slot_file::MOST_SLOTS + 1;
 
-// An input that is longer than any inventory file fills the room, and is refused by its length with the rest unread. After the last byte a
+// The file comes by standard input: an argument is not read, and standard error says so. An input that is longer than any inventory file fills the room, and is refused by its length with the rest unread. After the last byte a
 // further read tells the end of the input from a failure; an input that was not read to its end counts as empty, since a part of a file is no file.
 fn main() {
+    if 1 < os::arg_count() {
+        io::write_all(2, b"inventory: reads standard input: inventory < FILE\n");
+    }
     let mut room = [0; ROOM];
     let mut spare = [0; 1];
     let n = io::read_full(0, &mut room);

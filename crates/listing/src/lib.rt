@@ -25,15 +25,15 @@ fn list_answer(a: Answer, buffer: &mut [u8]) -> Listing
         };
     }
     let mut text = [0; LISTING_ROOM];
-    let length = listing_lines::put_listing(&mut text, a);
-    if buffer.len() < length {
+    let written = listing_lines::put_listing(&mut text, a);
+    if buffer.len() < written {
         return Listing {
             answer: Answer::refusal(13, 0),
             written: 0,
         };
     }
-    bytes::copy(&text[..length], buffer);
-    Listing { answer: a, length }
+    bytes::copy(&text[..written], buffer);
+    Listing { answer: a, written }
 }
 
 // What the program prints: the listing, or the refusal line.

@@ -30,7 +30,7 @@ returns-3 c =
     let a = q .before .before .before .args in
     let h = held (p .put-listing .ensures .0) (omega arith) in
     simp (eq-eqb _ _ (q .if1 .left), le-leb _ _ (rw (h .long) at (d .if2 .left)))
-    (ap₂ (λ (n : ℕ) (b : List ℕ). record { answer = a .a; length = n; buffer = b }) (h .long) (copied (a .buffer .now) h (c .before .before .copy .ensures .1)))
+    (ap₂ (λ (n : ℕ) (b : List ℕ). record { answer = a .a; written = n; buffer = b }) (h .long) (copied (a .buffer .now) h (c .before .before .copy .ensures .1)))
 
 pub list-answer-spec : {M : Type 1} → statement M
 list-answer-spec =
