@@ -74,7 +74,8 @@ fn add_group(totals: &mut [u64], summing: bool, temperatures: [i16; 12], step: G
     }
 }
 
-// The group chain, from slot 0 to a zero or to the first question that is answered no.
+// The group chain, from slot 0 to a zero or to the first question that is answered no. It ends: a step that goes on has marked a source that was not marked before
+// (question 7), and a file has fewer than MOST_SLOTS of them.
 pub(crate) fn walk_groups(
     file: &[u8],
     sources: &mut [bool; MOST_SLOTS],

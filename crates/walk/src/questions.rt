@@ -109,7 +109,7 @@ pub(crate) fn ask_soot_and_lead(
     ask(before, zero, 11, link)
 }
 
-// Question 12, of each slot from 1 up.
+// Question 12, of each slot from 1 up: it ends at the count of slots.
 pub(crate) fn ask_reached(reached: &[bool; MOST_SLOTS], count: usize) -> Verdict
     requires { ⌜ count ≤ mostSlots ⌝ }
     ensures { λ r. ⌜ ReachTold (now (reached .entry)) count r ⌝ }

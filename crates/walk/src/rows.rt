@@ -48,7 +48,7 @@ pub(crate) fn no_rows() -> [Coefficients; POLLUTANTS] {
     [no_row(); POLLUTANTS]
 }
 
-// The coefficient links of the group g, from `first` on; each slot is marked as reached.
+// The coefficient links of the group g, from `first` on; each slot is marked as reached. It ends after ROWS links, wherever they lead.
 pub(crate) fn read_rows(file: &[u8], reached: &mut [bool; MOST_SLOTS], g: u16, first: u16) -> Rows
     requires { ⌜ (length (now file) ≤ mostBytes) × (first ≡ groupRead (slotOf (now file) g) .first) ⌝ }
     ensures { λ r. ⌜ RowsRead (now (file .entry)) g (now (reached .entry)) (now (reached .exit)) r ⌝ }

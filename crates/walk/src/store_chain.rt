@@ -100,7 +100,8 @@ fn add_store(totals: &mut [u64], summing: bool, read: StoreRead)
     }
 }
 
-// The store chain, after the groups, from slot 0 to a zero or to the first question that is answered no.
+// The store chain, after the groups, from slot 0 to a zero or to the first question that is answered no. It ends as the group chain does: each step that goes on has
+// marked one source more.
 pub(crate) fn walk_stores(
     file: &[u8],
     sources: &mut [bool; MOST_SLOTS],
