@@ -1,4 +1,4 @@
--- THE LETTER'S THREE DEMANDS, of the definitions that `walk::check` and `walk::answer` are proved to equal. By what a outcome means (`Outcomes`), by the range of
+-- THE LETTER'S THREE DEMANDS, of the definitions that `walk::check` and `walk::answer` are proved to equal. By what an outcome means (`Outcomes`), by the range of
 -- each source that passed (`Ranged`), and by what two alike files have in common (`Agreement`). Assumes nothing.
 use Prim.Native.Nat.{ℕ, zero, suc, _<_}
 use native.Mathlib.Nat.{not-suc-le-zero, le-of-suc-le-suc}

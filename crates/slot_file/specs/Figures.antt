@@ -52,7 +52,7 @@ annualFigure xs c = nearest (exactSum (λ (x : Contribution). x .tonnes) c xs �
 unfoldable pub peakFigure : List Contribution → ℕ → ℕ
 peakFigure xs c = nearest (exactSum (λ (x : Contribution). x .rate) c xs ⊙ whole 10000000)
 
--- the lengths of the chains, which the counts of an accepted file are (`Rounded.counts-are`)
+-- the lengths of the chains, which the counts of an accepted file are (`Demands.each-source`)
 abbrev pub countsOf : Chains → Counts
 countsOf c = record { groups = length (c .groups); stores = length (c .stores) }
 

@@ -1,4 +1,4 @@
--- What a slot file answers, by definition. A reader of 01 wants, in this order: Sources, Questions, Walk, Codes, Figures, Alike, Listing, Surveyed; Meaning says what a outcome
+-- What a slot file answers, by definition. A reader of 01 wants, in this order: Sources, Questions, Walk, Codes, Figures, Alike, Listing, Surveyed; Meaning says what an outcome
 -- means in words that know no walk, and Demands what the letter demands. Parts has what the code's marks and sums hold.
 pub mod Sources
 pub mod Questions

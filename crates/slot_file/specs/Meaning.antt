@@ -1,4 +1,4 @@
--- What a outcome means, in words that know no walk.
+-- What an outcome means, in words that know no walk.
 use Prim.Native.Nat.{ℕ}
 use mathlib.Core.Path.{_≡_}
 use mathlib.Core.Bool.{true, false}

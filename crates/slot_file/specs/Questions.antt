@@ -9,6 +9,7 @@ use Rattle.vehicle_fields.specs.Fields.{pollutantCount, temperaturesInRange}
 use Rattle.vehicle_fields.specs.SootAndLead.{zeroWhereDue}
 use Rattle.slots.specs.Bytes.{slotSize, slotOf}
 use Rattle.slots.specs.Layout.{groupOf, groupGood, groupKind, coefficientsOf, coefficientsGood, coefficientsKind, coefficientsRead, storeKind, storeGood}
+use Rattle.slots.specs.declared.header.Header.{Header}
 use Rattle.slot_file.specs.Sources.{coefficientSlot, groupAt, headerAt, Chains}
 
 pub record Question : Type 0 where
@@ -39,15 +40,18 @@ mostBytes = slotSize * mostSlots
 abbrev pub slotCount : List ℕ → ℕ
 slotCount s = length s / slotSize
 
--- questions 1 to 5, of the file and its slot 0; "The slot is 0 for 1 to 5"
-unfoldable pub headAsks : List ℕ → List Question
-headAsks s =
+-- questions 1 to 5, of the file s and what its slot 0 holds; "The slot is 0 for 1 to 5"
+abbrev pub headAsksOf : List ℕ → Header → List Question
+headAsksOf s h =
     question (leb slotSize (length s) && leb (length s) mostBytes && eqb (length s % slotSize) 0) 1 0  -- "Is the length a multiple of 64, from 64 to 65,536?"
-    ∷ question (eqb (headerAt s .format) 1) 2 0  -- "Is the format number 1?"
-    ∷ question (eqb (headerAt s .count) (slotCount s)) 3 0  -- "Does the slot count equal length / 64?"
-    ∷ question (headerAt s .rest) 4 0  -- "Are bytes 32..63 of slot 0 zero?"
-    ∷ question (temperaturesInRange (headerAt s .temperatures)) 5 0  -- "Is each temperature from -600 to 600?"
+    ∷ question (eqb (h .format) 1) 2 0  -- "Is the format number 1?"
+    ∷ question (eqb (h .count) (slotCount s)) 3 0  -- "Does the slot count equal length / 64?"
+    ∷ question (h .rest) 4 0  -- "Are bytes 32..63 of slot 0 zero?"
+    ∷ question (temperaturesInRange (h .temperatures)) 5 0  -- "Is each temperature from -600 to 600?"
     ∷ []
+
+unfoldable pub headAsks : List ℕ → List Question
+headAsks s = headAsksOf s (headerAt s)
 
 -- whether k is among the slots
 unfoldable pub member : ℕ → List ℕ → Bool

@@ -4,19 +4,19 @@ use native.Mathlib.Omega.{arith}
 use mathlib.Core.Path.{_≡_, refl, sym, ap, _∙_}
 use mathlib.Core.Bool.{Bool, true, false, not}
 use mathlib.Core.List.{List, [], _∷_, _++_}
-use lib.Dec.{eqb, lit<}
+use lib.Dec.{eqb}
 use lib.ListN.{getD}
 use native.Mathlib.Decide.{decLt}
-use borrow.Author.Tests.{eq-eqb, ne-eqb, lt-ltb}
+use borrow.Author.Tests.{eq-eqb, ne-eqb}
 use Rattle.sums.specs.Choice.{if_then_else}
 use Rattle.sums.specs.declared.answer.Verdict.{Verdict}
 use Rattle.slots.specs.Bytes.{numberOf}
 use Rattle.slot_file.specs.Questions.{mostSlots, Question, question, member, reachAsks}
 use Rattle.slot_file.specs.Meaning.{AllYes, FirstNo, here, later}
-use Rattle.slot_file.proofs.Asking.{all-append, all-right, no-before, no-after}
+use Rattle.slot_file.proofs.Asking.{all-append, no-before, no-after}
 use Rattle.slot_file.proofs.Marks.{marks-member}
 use Rattle.slot_file.specs.Parts.{marksOf}
-use Rattle.walk.specs.Told.{asked, isMarked, Told}
+use Rattle.walk.specs.Told.{asked, Told}
 
 pub told-no : {qs : List Question} {v : Verdict} (n k : ℕ) → v ≡ record { number = n; slot = k } → (n ≡ 0 → ⊥) → FirstNo qs n k → Told qs v
 told-no n k e z f = rw e (record { all = λ y. absurd (z y); first = λ _. f })
@@ -33,9 +33,6 @@ told-before xs ys t z = record { all = λ y. absurd (z y); first = λ _. no-befo
 
 pub told-after : {v : Verdict} (xs ys : List Question) → AllYes xs → Told ys v → Told (xs ++ ys) v
 told-after xs ys a t = record { all = λ y. all-append xs ys a (t .all y); first = λ z. no-after xs ys a (t .first z) }
-
-pub told-none : {v : Verdict} → v ≡ record { number = 0; slot = 0 } → Told [] v
-told-none e = told-yes e tt
 
 -- one question more, where b is its answer if nothing was refused before it
 pub told-ask : {qs : List Question} (v : Verdict) {r : Verdict} (b answer : Bool) (n k : ℕ) → 0 < n → Told qs v → (v .number ≡ 0 → b ≡ answer)
@@ -62,35 +59,58 @@ asked-zero v q p y = elim (decLt 0 (v .number)) [
 pub marked : (before : List ℕ) {marks : List Bool} (k : ℕ) {t : Bool} → marks ≡ marksOf before → (k ≡ 0 → ⊥) → k < mostSlots → getD marks k false ≡ t → member k before ≡ t
 marked before k m z h e = sym (marks-member before k (omega arith) h) ∙ ap (λ (l : List Bool). getD l k false) (sym m) ∙ e
 
-pub mark-known : (before : List ℕ) {marks : List Bool} (k : ℕ) → marks ≡ marksOf before → (k ≡ 0 → ⊥) → k < mostSlots → isMarked marks k ≡ member k before
-mark-known before k m z h = simp (lt-ltb k mostSlots h) (sym (marked before k m z h refl))
-
--- the number of a slot's read answers question 8, and then question 9
-kind-told : {n : ℕ} (kind good : Bool) → n ≡ numberOf kind good → not (eqb n 8) ≡ kind
+-- the number of a slot's read answers question 8, and where that is yes question 9
+pub kind-told : {n : ℕ} (kind good : Bool) → n ≡ numberOf kind good → not (eqb n 8) ≡ kind
 unfolding numberOf if_then_else
 kind-told true true e = rw e refl
 kind-told true false e = rw e refl
 kind-told false good e = rw e refl
 
-good-told : {n : ℕ} (kind good : Bool) → n ≡ numberOf kind good → kind ≡ true → not (eqb n 9) ≡ good
+pub good-told : {n : ℕ} (kind good : Bool) → n ≡ numberOf kind good → kind ≡ true → not (eqb n 9) ≡ good
 unfolding numberOf if_then_else
 good-told true true e k = rw e refl
 good-told true false e k = rw e refl
 good-told false good e k = cc
-
-pub told-read : {qs : List Question} (v : Verdict) (w : Verdict) {r : Verdict} (n : ℕ) (kind good : Bool) (k : ℕ) → n ≡ numberOf kind good → Told qs v
-    → w ≡ asked v (question (not (eqb n 8)) 8 k) → r ≡ asked w (question (not (eqb n 9)) 9 k) → Told ((qs ++ question kind 8 k ∷ []) ++ question good 9 k ∷ []) r
-told-read {qs} v w n kind good k e t p q =
-    let a = told-ask v _ kind 8 k (lit< tt) t (λ _. kind-told kind good e) p in
-    told-ask w _ good 9 k (lit< tt) a (λ y. good-told kind good e (all-right qs (question kind 8 k ∷ []) (a .all y) .0)) q
 
 -- what the questions qs are told, all of them are: those before qs were answered yes
 pub record Rest (qs whole : List Question) : Type 0 where
   pub all : AllYes qs → AllYes whole
   pub first : (n k : ℕ) → FirstNo qs n k → FirstNo whole n k
 
+pub rest-whole : {qs : List Question} → Rest qs qs
+rest-whole = record { all = λ a. a; first = λ n k f. f }
+
 pub rest-on : {q : Question} {qs whole : List Question} → q .yes ≡ true → Rest (q ∷ qs) whole → Rest qs whole
 rest-on e r = record { all = λ a. r .all (e, a); first = λ n k f. r .first n k (later _ _ e f) }
+
+-- the next one is answered no, and all are answered yes
+pub told-here : {q : Question} {qs whole : List Question} {v : Verdict} → v ≡ record { number = q .number; slot = q .slot } → 0 < q .number → q .yes ≡ false → Rest (q ∷ qs) whole → Told whole v
+told-here e p n r = told-no _ _ e (λ z. omega arith) (r .first _ _ (here _ _ n))
+
+pub told-all : {whole : List Question} {v : Verdict} → v ≡ record { number = 0; slot = 0 } → Rest [] whole → Told whole v
+told-all e r = told-yes e (r .all tt)
+
+-- two lists of the same questions, as long as they are answered yes: what the one is told, the other is
+abbrev pub SameAsks : List Question → List Question → Type 0
+SameAsks [] [] = Unit {0}
+SameAsks [] (p ∷ ps) = ⊥
+SameAsks (q ∷ qs) [] = ⊥
+SameAsks (q ∷ qs) (p ∷ ps) = (q .yes ≡ p .yes) × (q .number ≡ p .number) × (q .slot ≡ p .slot) × (p .yes ≡ true → SameAsks qs ps)
+
+same-all : (qs ps : List Question) → SameAsks qs ps → AllYes qs → AllYes ps
+same-all [] [] s a = tt
+same-all [] (p ∷ ps) s a = absurd s
+same-all (q ∷ qs) [] s a = absurd s
+same-all (q ∷ qs) (p ∷ ps) s a = let y = sym (s .0) ∙ a .0 in (y, same-all qs ps (s .3 y) (a .1))
+
+same-no : (qs ps : List Question) {n k : ℕ} → SameAsks qs ps → FirstNo qs n k → FirstNo ps n k
+same-no qs [] s (here q rest e) = absurd s
+same-no qs [] s (later q rest e f) = absurd s
+same-no qs (p ∷ ps) s (here q rest e) = rw (s .1, s .2) (here p ps (sym (s .0) ∙ e))
+same-no qs (p ∷ ps) s (later q rest e f) = let y = sym (s .0) ∙ e in later p ps y (same-no rest ps (s .3 y) f)
+
+pub same-told : (qs ps : List Question) {v : Verdict} → SameAsks qs ps → Told qs v → Told ps v
+same-told qs ps s t = record { all = λ y. same-all qs ps s (t .all y); first = λ z. same-no qs ps s (t .first z) }
 
 -- the questions of one slot more
 pub reach-turn : (n m i : ℕ) (l : List ℕ) → n ≡ suc m → reachAsks n i l ≡ question (member i l) 12 i ∷ reachAsks m (i + 1) l

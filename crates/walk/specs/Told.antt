@@ -1,10 +1,9 @@
 -- What a list of questions is answered by a number and a slot: 0 where each is answered yes, and else those of the first that is answered no.
 use Prim.Native.Nat.{ℕ, _<_, _≤_, _-_}
 use mathlib.Core.Path.{_≡_}
-use mathlib.Core.Bool.{Bool, false, _&&_, not}
+use mathlib.Core.Bool.{Bool, _&&_, not}
 use mathlib.Core.List.{List}
-use lib.Dec.{ltb, eqb}
-use lib.ListN.{getD}
+use lib.Dec.{eqb}
 use Rattle.sums.specs.Choice.{if_then_else}
 use Rattle.sums.specs.declared.answer.Verdict.{Verdict}
 use Rattle.slots.specs.Bytes.{slotOf, numberOf}
@@ -22,10 +21,6 @@ pub record Told (qs : List Question) (v : Verdict) : Type 0 where
 -- one question more, which is asked where nothing was refused
 unfoldable pub asked : Verdict → Question → Verdict
 asked v q = if_then_else (eqb (v .number) 0 && not (q .yes)) (record { number = q .number; slot = q .slot }) v
-
--- whether the slot k has a mark, and is marked
-abbrev pub isMarked : List Bool → ℕ → Bool
-isMarked marks k = ltb k mostSlots && getD marks k false
 
 -- of a link, whatever sources the marks are of and whatever the slot's read is numbered for
 pub record LinkTold (s : List ℕ) (marks : List Bool) (holder k number : ℕ) (v : Verdict) : Type 0 where

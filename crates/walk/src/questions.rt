@@ -1,10 +1,11 @@
 // The questions in order: of a list of them, the number and the slot of the first that is answered no, or 0 and 0.
 ghost use mathlib.Core.Path.{_≡_};
 ghost use Prim.Native.Nat.{_≤_};
+ghost use lib.ListN.{length};
 ghost use Rattle.vehicle_fields.specs.SootAndLead.{zeroWhereDue};
 ghost use Rattle.slot_file.specs.Sources.{headerAt};
-ghost use Rattle.slot_file.specs.Questions.{mostSlots, question, headAsks};
-ghost use Rattle.walk.specs.Told.{asked, isMarked, Told, LinkTold, RowTold, ReachTold};
+ghost use Rattle.slot_file.specs.Questions.{mostSlots, mostBytes, question, headAsks};
+ghost use Rattle.walk.specs.Told.{asked, Told, LinkTold, RowTold, ReachTold};
 use slot_file::MOST_SLOTS;
 use slots::CoefficientsRead;
 use slots::Header;
@@ -29,37 +30,30 @@ pub(crate) fn refuse(number: u8, slot: u16) -> Verdict
 // The bytes of a file at most.
 const MOST_BYTES: usize = SLOT_SIZE * MOST_SLOTS;
 
-// One question more, after what was told before: it is asked where nothing was refused.
-pub(crate) fn ask(before: Verdict, yes: bool, number: u8, slot: u16) -> Verdict
-    ensures { λ r. ⌜ r ≡ asked before (question yes number slot) ⌝ }
-{
-    if (before.number == 0) & !yes {
-        refuse(number, slot)
-    } else {
-        before
-    }
-}
-
 // Questions 1 to 5, of the file and its slot 0.
 pub(crate) fn ask_head(file: &[u8], h: Header) -> Verdict
     requires { ⌜ h ≡ headerAt (now file) ⌝ }
     ensures { λ r. ⌜ Told (headAsks (now (file .entry))) r ⌝ }
 {
     let n = file.len();
-    let temperatures = h.temperatures;
     let whole = (SLOT_SIZE <= n) & (n <= MOST_BYTES) & (n % SLOT_SIZE == 0);
-    let v = ask(accept(), whole, 1, 0);
-    let v = ask(v, h.format == 1, 2, 0);
-    let v = ask(v, h.count as usize == n / SLOT_SIZE, 3, 0);
-    let v = ask(v, h.rest, 4, 0);
-    ask(v, vehicle_fields::temperatures_in_range(temperatures), 5, 0)
-}
-
-// Whether the slot k is marked.
-fn is_marked(marks: &[bool; MOST_SLOTS], k: usize) -> bool
-    ensures { λ r. ⌜ r ≡ isMarked (now (marks .entry)) k ⌝ }
-{
-    (k < MOST_SLOTS) && marks[k]
+    if !whole {
+        return refuse(1, 0);
+    }
+    if h.format != 1 {
+        return refuse(2, 0);
+    }
+    if h.count as usize != n / SLOT_SIZE {
+        return refuse(3, 0);
+    }
+    if !h.rest {
+        return refuse(4, 0);
+    }
+    let temperatures = h.temperatures;
+    if !vehicle_fields::temperatures_in_range(temperatures) {
+        return refuse(5, 0);
+    }
+    accept()
 }
 
 // Questions 6 to 9, of a link to a group or store record: `number` is what the slot's read answers of 8 and 9.
@@ -70,13 +64,23 @@ pub(crate) fn ask_link(
     link: u16,
     number: u8,
 ) -> Verdict
+    requires { ⌜ length (now file) ≤ mostBytes ⌝ }
     ensures { λ r. ⌜ LinkTold (now (file .entry)) (now (sources .entry)) holder link number r ⌝ }
 {
     let k = link as usize;
-    let v = ask(accept(), k < file.len() / SLOT_SIZE, 6, holder);
-    let v = ask(v, !is_marked(sources, k), 7, link);
-    let v = ask(v, number != 8, 8, link);
-    ask(v, number != 9, 9, link)
+    if file.len() / SLOT_SIZE <= k {
+        return refuse(6, holder);
+    }
+    if sources[k] {
+        return refuse(7, link);
+    }
+    if number == 8 {
+        return refuse(8, link);
+    }
+    if number == 9 {
+        return refuse(9, link);
+    }
+    accept()
 }
 
 // Questions 10, 6, 8, 9 and 10, of a link to a group's coefficient slot at a place from 0.
@@ -89,11 +93,22 @@ pub(crate) fn ask_row(
 ) -> Verdict
     ensures { λ r. ⌜ RowTold (now (file .entry)) holder link place row r ⌝ }
 {
-    let v = ask(accept(), link != 0, 10, holder);
-    let v = ask(v, (link as usize) < file.len() / SLOT_SIZE, 6, holder);
-    let v = ask(v, row.number != 8, 8, link);
-    let v = ask(v, row.number != 9, 9, link);
-    ask(v, row.pollutant as u16 == place as u16 + 1, 10, link)
+    if link == 0 {
+        return refuse(10, holder);
+    }
+    if file.len() / SLOT_SIZE <= link as usize {
+        return refuse(6, holder);
+    }
+    if row.number == 8 {
+        return refuse(8, link);
+    }
+    if row.number == 9 {
+        return refuse(9, link);
+    }
+    if row.pollutant as u16 != place as u16 + 1 {
+        return refuse(10, link);
+    }
+    accept()
 }
 
 // Question 11, of a group that was told `before` by the questions before it.
@@ -105,8 +120,13 @@ pub(crate) fn ask_soot_and_lead(
 ) -> Verdict
     ensures { λ r. ⌜ r ≡ asked before (question (zeroWhereDue group coefficients) 11 link) ⌝ }
 {
-    let zero = vehicle_fields::zero_where_due(group, coefficients);
-    ask(before, zero, 11, link)
+    if before.number != 0 {
+        return before;
+    }
+    if !vehicle_fields::zero_where_due(group, coefficients) {
+        return refuse(11, link);
+    }
+    before
 }
 
 // Question 12, of each slot from 1 up: it ends at the count of slots.

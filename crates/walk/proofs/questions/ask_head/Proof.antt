@@ -1,26 +1,84 @@
--- Each question in turn.
+-- Each question is asked where those before it are answered yes.
+use borrow.Author.Tests.{eq-eqb, ne-eqb, not-true, not-false}
 use native.Mathlib.Omega.{arith}
+use mathlib.Core.Path.{sym, subst, _∙_}
+use mathlib.Core.List.{List}
 use lib.Dec.{lit<}
-use mathlib.Core.Path.{refl}
-use Rattle.slot_file.specs.Questions.{headAsks}
-use Rattle.walk.proofs.Telling.{told-none, told-ask}
+use lib.ListN.{drop}
+use Rattle.sums.specs.declared.answer.Verdict.{Verdict}
+use Rattle.slots.specs.declared.header.Header.{Header}
+use Rattle.slot_file.specs.Questions.{Question, headAsksOf, headAsks}
+use Rattle.walk.specs.Told.{Told}
+use Rattle.walk.proofs.Telling.{Rest, rest-whole, rest-on, told-here, told-all}
 use Rattle.walk.proofs.questions.ask_head.Statement.{statement}
 use Rattle.walk.proofs.questions.ask_head.Tie as tie
 
-returns : tie.Need-returns
+-- the questions by the header at hand, and so by the file's
+abbrev asks : tie.Start → List Question
+asks a = headAsksOf (a .args .file .now) (a .args .h)
+
+headed : (a : tie.Start) {v : Verdict} → Told (asks a) v → Told (headAsks (a .args .file .now)) v
 unfolding headAsks
-returns c =
-    let t = c .before in
-    let c4 = t .before in
-    let c3 = c4 .before in
-    let c2 = c3 .before .before in
-    let c1 = c2 .before .before in
-    let c0 = c1 .before in
-    let a1 = told-ask _ _ _ 1 0 (lit< tt) (told-none (c0 .accept .ensures)) (λ _. refl) (c1 .ask .ensures) in
-    let a2 = told-ask _ _ _ 2 0 (lit< tt) a1 (λ _. refl) (c2 .ask2 .ensures) in
-    let a3 = told-ask _ _ _ 3 0 (lit< tt) a2 (λ _. refl) (c3 .ask3 .ensures) in
-    let a4 = told-ask _ _ _ 4 0 (lit< tt) a3 (λ _. refl) (c4 .ask4 .ensures) in
-    rw (← c0 .before .before .before .pre) (told-ask _ _ _ 5 0 (lit< tt) a4 (λ _. t .temperatures-in-range .ensures) (c .ask5 .ensures))
+headed a {v} t = subst (λ (h : Header). Told (headAsksOf (a .args .file .now) h) v) (a .pre) t
+
+-- from behind each question to the start
+abbrev start-1 : tie.Else1 → tie.Start
+start-1 c = c .before .before
+
+abbrev start-2 : tie.Else2 → tie.Start
+start-2 c = start-1 (c .before .before)
+
+abbrev start-3 : tie.Else3 → tie.Start
+start-3 c = start-2 (c .before .before)
+
+abbrev start-4 : tie.Else4 → tie.Start
+start-4 c = start-3 (c .before .before)
+
+-- and what is left there
+after-1 : (c : tie.Else1) → Rest (drop 1 (asks (start-1 c))) (asks (start-1 c))
+after-1 c = rest-on (not-false _ (c .if1 .left)) rest-whole
+
+after-2 : (c : tie.Else2) → Rest (drop 2 (asks (start-2 c))) (asks (start-2 c))
+after-2 c = rest-on (eq-eqb _ 1 (c .if2 .left)) (after-1 (c .before .before))
+
+after-3 : (c : tie.Else3) → Rest (drop 3 (asks (start-3 c))) (asks (start-3 c))
+after-3 c = rest-on (eq-eqb _ _ (c .if3 .left)) (after-2 (c .before .before))
+
+after-4 : (c : tie.Else4) → Rest (drop 4 (asks (start-4 c))) (asks (start-4 c))
+after-4 c = rest-on (not-false _ (c .if4 .left)) (after-3 (c .before .before))
+
+returns : tie.Need-returns
+returns c = headed (c .before .before .before) (told-here (c .refuse .ensures) (lit< tt) (not-true _ (c .before .if1 .taken)) rest-whole)
+
+returns-2 : tie.Need-returns-2
+returns-2 c =
+    let b = c .before .before .before in
+    headed (start-1 b) (told-here (c .refuse2 .ensures) (lit< tt) (ne-eqb _ 1 (c .before .if2 .taken)) (after-1 b))
+
+returns-3 : tie.Need-returns-3
+returns-3 c =
+    let b = c .before .before .before in
+    headed (start-2 b) (told-here (c .refuse3 .ensures) (lit< tt) (ne-eqb _ _ (c .before .if3 .taken)) (after-2 b))
+
+returns-4 : tie.Need-returns-4
+returns-4 c =
+    let b = c .before .before .before in
+    headed (start-3 b) (told-here (c .refuse4 .ensures) (lit< tt) (not-true _ (c .before .if4 .taken)) (after-3 b))
+
+returns-5 : tie.Need-returns-5
+returns-5 c =
+    let t = c .before .before in
+    let b = t .before .before in
+    headed (start-4 b) (told-here (c .refuse5 .ensures) (lit< tt) (sym (t .temperatures-in-range .ensures) ∙ not-true _ (c .before .if5 .taken)) (after-4 b))
+
+returns-6 : tie.Need-returns-6
+returns-6 c =
+    let t = c .before .before in
+    let b = t .before .before in
+    headed (start-4 b) (told-all (c .accept .ensures) (rest-on (sym (t .temperatures-in-range .ensures) ∙ not-false _ (c .before .if5 .left)) (after-4 b)))
 
 pub ask-head-spec : {M : Type 1} → statement M
-ask-head-spec = tie.close (tie.spec (omega arith) (omega arith) (omega arith) (omega arith) (omega arith) (omega arith) (omega arith) (omega arith) returns)
+ask-head-spec =
+    tie.close
+    (tie.spec (omega arith) returns (omega arith) returns-2 (omega arith) (omega arith) returns-3 (omega arith) returns-4 (omega arith) (omega arith)
+    returns-5 (omega arith) returns-6)
