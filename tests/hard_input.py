@@ -26,6 +26,7 @@ from inventory import LISTING, example
 SECONDS = 20
 UNREAD = (b"refused 1 0\n", b"inventory: standard input: ")
 UNWRITTEN = b"inventory: standard output: "
+UNNAMED = b"inventory: reads standard input: inventory < FILE\n"
 
 
 def ended(program, status=0, **how):
@@ -115,6 +116,13 @@ def long_input(program):
         assert_printed(ended(program, stdin=endless), b"refused 1 0\n", "no end")
 
 
+def named_file(program):
+    """A file named as an argument is not read, and that is said; what comes by the pipe is."""
+    done = subprocess.run([program, "FILE"], input=example(), capture_output=True, timeout=SECONDS)
+    assert (done.returncode, done.stdout) == (0, LISTING), done
+    assert done.stderr == UNNAMED, done.stderr
+
+
 # Output
 
 
@@ -174,6 +182,7 @@ HARD = (
     killed_writer,
     slow_pipe,
     long_input,
+    named_file,
     full_device,
     closed_output,
     closed_pipe,

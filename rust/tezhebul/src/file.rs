@@ -79,7 +79,7 @@ fn read(numbers: &[u64; NUMBERS], most: u64) -> Result<Answer, Refusal> {
         groups: count(*groups),
         stores: count(*stores),
         annual: std::array::from_fn(|code| figures[code]),
-        peak: std::array::from_fn(|code| figures[10 + code]),
+        peak: std::array::from_fn(|code| figures[CODES + code]),
     })
 }
 
