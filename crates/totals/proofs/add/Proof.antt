@@ -33,7 +33,9 @@ returns-2 c =
 
 same-length : tie.Need-same-length
 same-length c =
-    ap length (c .before .before .add-at2 .ensures) ∙ plus-length _ _ _ ∙ ap length (c .before .before .before .before .before .before .add-at .ensures) ∙ plus-length _ _ _
+    let a = c .before .before in
+    let f = a .before .before .before .before in
+    ap length (a .add-at2 .ensures) ∙ plus-length _ _ _ ∙ ap length (f .add-at .ensures) ∙ plus-length _ _ _
 
 returns-3 : tie.Need-returns-3
 unfolding plusIn

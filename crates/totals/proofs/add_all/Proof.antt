@@ -19,7 +19,10 @@ abbrev μ-loop : tie.MeasureT-loop
 
 loop-again : tie.Need-loop-again Inv-loop μ-loop
 unfolding plusToIn wordsOf
-loop-again c = (omega arith, omega arith, rw add-one (c .before .before .add .ensures ∙ rw (c .before .before .before .before .before .before .loop .inv .2)))
+loop-again c =
+    let d = c .before .before in
+    let b = d .before .before .before .before in
+    (omega arith, omega arith, rw add-one (d .add .ensures ∙ rw (b .loop .inv .2)))
 
 returns : tie.Need-returns Inv-loop μ-loop
 returns c = let e : c .before .loop .i ≡ emissionCount = omega arith in rw e at (c .before .loop .inv .2)

@@ -27,9 +27,10 @@ loop-holds c = (omega arith, omega arith, omega arith, record { same = refl; end
 loop-again : tie.Need-loop-again Inv-loop μ-loop
 unfolding wordsOf
 loop-again c =
-    let b = c .before .before .before .before .before .before .before in
+    let n = c .before .before .before .before in
+    let b = n .before .before .before in
     let es = b .before .before .before .args .t2 in
-    let e = c .before .before .before .before .emission-numbers .ensures in (
+    let e = n .emission-numbers .ensures in (
       omega arith,
       omega arith,
       b .loop .inv .2,

@@ -12,20 +12,27 @@ use Rattle.answer_numbers.specs.Numbers.{answerSize}
 use Rattle.answer_numbers.proofs.numbers.numbers_of.Statement.{statement}
 use Rattle.answer_numbers.proofs.numbers.numbers_of.Tie as tie
 
+-- back from where the first four numbers stand to where they are begun, and to the start
+abbrev at-first : tie.After-numbers → tie.After-struct-known
+at-first c = c .before .before .before .before .before
+
+abbrev at-start : tie.After-numbers → tie.Start
+at-start c = at-first c .before .before .before
+
 put-numbers-requires : tie.Need-put-numbers-requires
 put-numbers-requires c κs =
-    let l : length (c .before .before .before .before .before .before .before .before .args .a .annual) ≡ codeCount = search needs in
+    let l : length (at-start c .args .a .annual) ≡ codeCount = search needs in
     omega arith
 
 put-numbers-requires-2 : tie.Need-put-numbers-requires-2
 put-numbers-requires-2 c κs =
-    let l : length (c .before .before .before .before .before .before .before .before .before .before .before .before .args .a .peak) ≡ codeCount = search needs in
+    let l : length (at-start (c .before .before .before .before) .args .a .peak) ≡ codeCount = search needs in
     omega arith
 
 returns : tie.Need-returns
 returns c =
     let p = c .before .before .before .before .before in
-    let s = p .before .before .before .before .before .before .before .before .before in
+    let s = at-start (p .before) in
     let x = s .args .a .annual in
     let y = s .args .a .peak in
     let l : length x ≡ codeCount = search needs in

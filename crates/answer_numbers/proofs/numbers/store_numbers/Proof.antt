@@ -6,7 +6,9 @@ use Rattle.answer_numbers.proofs.numbers.store_numbers.Statement.{state
 use Rattle.answer_numbers.proofs.numbers.store_numbers.Tie as tie
 
 returns : tie.Need-returns
-returns c = c .before .put-numbers .ensures ∙ ap (sets _ 2) (c .before .before .before .before .before .before .emission-numbers .ensures)
+returns c =
+    let p = c .before in
+    p .put-numbers .ensures ∙ ap (sets _ 2) (p .before .before .before .before .before .emission-numbers .ensures)
 
 pub store-numbers-spec : {M : Type 1} → statement M
 store-numbers-spec =

@@ -33,9 +33,10 @@ loop-holds c = (omega arith, omega arith, record { same = refl; ends = refl })
 
 loop-again : tie.Need-loop-again Inv-loop μ-loop
 loop-again c =
-    let b = c .before .before .before .before .before .before in
+    let k = c .before .before .before .before in
+    let b = k .before .before in
     let a = b .before .args .t3 in
-    let l = rw (c .before .before .before .before .code-at .ensures) at (c .put-line .ensures .0) in
+    let l = rw (k .code-at .ensures) at (c .put-line .ensures .0) in
     (omega arith, omega arith, turn (b .loop .inv .2) (next codes (a .annual) (a .peak) (b .loop .i) (omega arith)) l)
 
 returns : tie.Need-returns Inv-loop μ-loop

@@ -14,7 +14,8 @@ returns c =
     let n = d .before in
     let v = n .before .before .before .before .before in
     let u = v .before in
-    let t = u .before .before .before .before .before .before .args .t .now in
+    let lent = u .before in
+    let t = lent .before .before .before .before .before .args .t .now in
     λ i. record {
       category = byteAt t 3;
       fuel = byteAt t 4;

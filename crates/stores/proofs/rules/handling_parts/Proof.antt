@@ -24,9 +24,9 @@ handling-parts-spec =
     fits-below tt
     (le-refl 5 ⊗ c .before .before .before .k1 .ensures .1 ⊗ c .before .before .k2 .ensures .1 ⊗ c .before .exposure .ensures .1 ⊗ h .bulk .amount))
     (λ c κs. handling _ (c .before .before .before .before .before .pre) .drop)
-    (λ c. let h = handling _ (c .before .before .before .before .before .before .pre) in
+    (λ c. let k = c .before .before .before .before in let h = handling _ (k .before .before .pre) in
     fits-below tt
-    (le-refl 5 ⊗ c .before .before .before .before .k1 .ensures .1 ⊗ c .before .before .before .k2 .ensures .1 ⊗ c .before .before .exposure .ensures .1
+    (le-refl 5 ⊗ k .k1 .ensures .1 ⊗ c .before .before .before .k2 .ensures .1 ⊗ c .before .before .exposure .ensures .1
     ⊗ h .bulk .amount ⊗ c .drop-factor .ensures .1))
     (λ c. rw (
       c .before .before .before .before .k1 .ensures .0,

@@ -11,7 +11,9 @@ use Rattle.tezhebul.proofs.fields.days_of.Tie as tie
 returns : tie.Need-returns
 unfolding listTo
 returns c =
-    let s = c .before .before .before .before .before .before .before .before .before .before .before .before in
+    let august = c .before .before .before .before in
+    let april = august .before .before .before .before in
+    let s = april .before .before .before .before in
     let l = s .args .days .now in
     sym (listTo-is 0 12 l (λ (m : ℕ). getD l m 0) (s .pre) (λ m p. refl))
 

@@ -8,12 +8,13 @@ use Rattle.tezhebul.proofs.files.tezhebul_list.Tie as tie
 
 returns : tie.Need-returns
 returns c =
-    let b = c .before .before .before .before .before .before .before in
+    let g = c .before .before in
+    let b = g .before .before .before .before .before in
     let out = b .before .before .before .before .before .args .out .now in
     let e = b .list .ensures in (
       ap (λ (l : Listed). l .written) e,
       ap (λ (l : Listed). l .buffer) e,
-      c .before .before .give-answer .ensures .1 ∙ ap (λ (l : Listed). into (numbersOf (l .answer)) out) e,
+      g .give-answer .ensures .1 ∙ ap (λ (l : Listed). into (numbersOf (l .answer)) out) e,
     )
 
 pub tezhebul-list-spec : {M : Type 1} → statement M

@@ -5,6 +5,22 @@ use Rattle.vehicle_fields.specs.Fields.{allInRange}
 use Rattle.vehicle_fields.proofs.group.all_in_range.Statement.{statement}
 use Rattle.vehicle_fields.proofs.group.all_in_range.Tie as tie
 
-pub all-in-range-spec : {M : Type 1} → statement M
+returns : tie.Need-returns
 unfolding allInRange allTo
-all-in-range-spec = tie.close (tie.spec (omega arith) (omega arith) (omega arith) (omega arith) (omega arith) (omega arith) (omega arith) (omega arith) (omega arith) (omega arith) (omega arith) (omega arith) (λ c. rw (c .before .before .before .before .before .before .before .before .before .before .coefficients-in-range .ensures, c .before .before .before .before .before .before .before .before .coefficients-in-range2 .ensures, c .before .before .before .before .before .before .coefficients-in-range3 .ensures, c .before .before .before .before .coefficients-in-range4 .ensures, c .before .before .coefficients-in-range5 .ensures, c .coefficients-in-range6 .ensures)))
+returns c =
+    let fifth = c .before .before in
+    let fourth = fifth .before .before in
+    let third = fourth .before .before in
+    let second = third .before .before in
+    let first = second .before .before in
+    rw (
+      first .coefficients-in-range .ensures,
+      second .coefficients-in-range2 .ensures,
+      third .coefficients-in-range3 .ensures,
+      fourth .coefficients-in-range4 .ensures,
+      fifth .coefficients-in-range5 .ensures,
+      c .coefficients-in-range6 .ensures,
+    )
+
+pub all-in-range-spec : {M : Type 1} → statement M
+all-in-range-spec = tie.close (tie.spec (omega arith) (omega arith) (omega arith) (omega arith) (omega arith) (omega arith) (omega arith) (omega arith) (omega arith) (omega arith) (omega arith) (omega arith) returns)

@@ -35,11 +35,12 @@ of-year b m l = omega arith
 
 warmup-fits : tie.Need-more-minutes-requires Inv-loop μ-loop
 warmup-fits c κs =
-    let b = c .before .before .before .before .before in
+    let a = c .before .before in
+    let b = a .before .before .before in
     let s = b .before .before .before .before in
     let g = s .args .g in
     let ts = s .args .t2 in
-    let w = c .before .before .conditions-at in (
+    let w = a .conditions-at in (
       rw (b .loop .inv .3 _ (w .ensures .1 .period))
           (omega (arith, alone g ts (monthWarmup g ts) 9300 (b .loop .i) (λ m l. warmup-most g (s .pre) ts m (of-year b m l)) (w .result .period))),
       omega (arith, w .ensures .1 .minutes),
@@ -47,11 +48,12 @@ warmup-fits c κs =
 
 run-fits : tie.Need-more-metres-requires Inv-loop μ-loop
 run-fits c κs =
-    let b = c .before .before .before .before .before .before .before in
+    let a = c .before .before .before .before in
+    let b = a .before .before .before in
     let s = b .before .before .before .before in
     let g = s .args .g in
     let ts = s .args .t2 in
-    let w = c .before .before .before .before .conditions-at in (
+    let w = a .conditions-at in (
       rw (b .loop .inv .4 _ (w .ensures .1 .period))
           (omega (arith, alone g ts (monthRun g) 2480000 (b .loop .i) (λ m l. run-most g (s .pre) m (of-year b m l)) (w .result .period))),
       rw (b .before .before .day-run .ensures) (day-run g (s .pre)),
@@ -59,7 +61,8 @@ run-fits c κs =
 
 idling-fits : tie.Need-more-minutes-requires-2 Inv-loop μ-loop
 idling-fits c κs =
-    let b = c .before .before .before .before .before .before .before .before in
+    let a = c .before .before .before .before .before in
+    let b = a .before .before .before in
     let s = b .before .before .before .before in
     let g = s .args .g in (
       rw (b .loop .inv .5) (omega (arith, sumTo-bound 15500 (monthIdle g) (b .loop .i) (λ m l. idle-most g (s .pre) m (of-year b m l)))),
@@ -68,7 +71,8 @@ idling-fits c κs =
 
 loop-again : tie.Need-loop-again Inv-loop μ-loop
 loop-again c =
-    let a = c .before .before .before .before .before .before in
+    let m = c .before .before .before in
+    let a = m .before .before .before in
     let b = a .before .before .before in
     let s = b .before .before .before .before .args in
     let x = toZ-ofZ {w = w16} {z = getD (s .t2) (b .loop .i) (pos 0)} (omega arith) in
@@ -78,8 +82,8 @@ loop-again c =
       omega arith,
       simp length-set (b .loop .inv .1),
       simp length-set (b .loop .inv .2),
-      added (s .g) (s .t2) (monthWarmup (s .g) (s .t2)) (tenths 0) tenths (b .loop .minutes) (b .loop .i) q (c .before .before .before .more-minutes .result)
-          (rw e) (omega arith) (b .loop .inv .3) (ap tenths (c .before .before .before .more-minutes .ensures ∙ rw (b .loop .inv .3 q l, e))),
+      added (s .g) (s .t2) (monthWarmup (s .g) (s .t2)) (tenths 0) tenths (b .loop .minutes) (b .loop .i) q (m .more-minutes .result)
+          (rw e) (omega arith) (b .loop .inv .3) (ap tenths (m .more-minutes .ensures ∙ rw (b .loop .inv .3 q l, e))),
       added (s .g) (s .t2) (monthRun (s .g)) (metres 0) metres (b .loop .metres) (b .loop .i) q (c .before .more-metres .result)
           (rw e) (omega arith) (b .loop .inv .4) (ap metres (c .before .more-metres .ensures ∙ rw (b .loop .inv .4 q l, b .before .before .day-run .ensures))),
       ap tenths (c .more-minutes2 .ensures ∙ rw (b .loop .inv .5, b .before .day-idle .ensures, sumTo-step (b .loop .i) (monthIdle (s .g)))),

@@ -11,6 +11,7 @@ day-run-spec =
     (tie.spec (λ c κs. let s = c .before .before in ranged (s .args .g) (s .pre) .outward)
     (λ c κs. let s = c .before .before .before in ranged (s .args .g) (s .pre) .inward)
     (λ c.
-    let s = c .before .before .before .before .before .before in
-    rw (c .before .before .distance-sum2 .ensures, c .before .before .before .distance-sum .ensures) (fits-below tt (day-run (s .args .g) (s .pre))))
+    let d = c .before .before .before in
+    let s = d .before .before .before in
+    rw (c .before .before .distance-sum2 .ensures, d .distance-sum .ensures) (fits-below tt (day-run (s .args .g) (s .pre))))
     (λ c. rw (c .before .before .distance-sum2 .ensures, c .before .before .before .distance-sum .ensures)))

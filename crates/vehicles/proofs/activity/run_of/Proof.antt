@@ -11,9 +11,13 @@ run-of-spec =
     tie.close
     (tie.spec (omega arith) (omega arith) (omega arith) (omega arith) (omega arith) (omega arith) (omega arith) (omega arith) (omega arith)
     (λ c κs.
-    let b = c .before .before .before .before .before .before .before .before .before .before .before in
-    rw (c .over-metres3 .ensures, c .before .before .before .over-metres2 .ensures, c .before .before .before .before .before .before .over-metres .ensures)
+    let second = c .before .before .before in
+    let first = second .before .before .before in
+    let b = first .before .before .before .before .before in
+    rw (c .over-metres3 .ensures, second .over-metres2 .ensures, first .over-metres .ensures)
     (omega (arith, run-parts (b .args .k) (b .args .a) (b .pre .0) (b .pre .1))))
     (λ c.
-    let b = c .before in
-    rw (c .total .ensures, b .over-metres3 .ensures, b .before .before .before .over-metres2 .ensures, b .before .before .before .before .before .before .over-metres .ensures) (omega arith)))
+    let third = c .before in
+    let second = third .before .before .before in
+    let first = second .before .before .before in
+    rw (c .total .ensures, third .over-metres3 .ensures, second .over-metres2 .ensures, first .over-metres .ensures) (omega arith)))

@@ -11,9 +11,13 @@ warmup-of-spec =
     tie.close
     (tie.spec (omega arith) (omega arith) (omega arith) (omega arith) (omega arith) (omega arith) (omega arith) (omega arith) (omega arith)
     (λ c κs.
-    let b = c .before .before .before .before .before .before .before .before .before .before .before in
-    rw (c .over-minutes3 .ensures, c .before .before .before .over-minutes2 .ensures, c .before .before .before .before .before .before .over-minutes .ensures)
+    let second = c .before .before .before in
+    let first = second .before .before .before in
+    let b = first .before .before .before .before .before in
+    rw (c .over-minutes3 .ensures, second .over-minutes2 .ensures, first .over-minutes .ensures)
     (omega (arith, warmup-parts (b .args .k) (b .args .a) (b .pre .0) (b .pre .1))))
     (λ c.
-    let b = c .before in
-    rw (c .total .ensures, b .over-minutes3 .ensures, b .before .before .before .over-minutes2 .ensures, b .before .before .before .before .before .before .over-minutes .ensures) (omega arith)))
+    let third = c .before in
+    let second = third .before .before .before in
+    let first = second .before .before .before in
+    rw (c .total .ensures, third .over-minutes3 .ensures, second .over-minutes2 .ensures, first .over-minutes .ensures) (omega arith)))

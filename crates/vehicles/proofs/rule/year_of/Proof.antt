@@ -9,11 +9,12 @@ use Rattle.vehicles.proofs.rule.year_of.Tie as tie
 
 mass-of-requires : tie.Need-mass-of-requires
 mass-of-requires c κs =
-    let b = c .before .before .before .before .before .before in
+    let w = c .before .before in
+    let b = w .before .before .before .before in
     let s = b .args in (
       ranged (s .g) (b .pre .0) .neutraliser,
       b .pre .2,
-      rw (c .before .before .warmup-of .ensures) (warmup-parts (s .k) (s .a) (b .pre .1) (b .pre .3)),
+      rw (w .warmup-of .ensures) (warmup-parts (s .k) (s .a) (b .pre .1) (b .pre .3)),
       rw (c .before .run-of .ensures) (run-parts (s .k) (s .a) (b .pre .1) (b .pre .3)),
       rw (c .over-minutes .ensures) (idle-parts (s .k) (s .a) (b .pre .1) (b .pre .3)),
     )

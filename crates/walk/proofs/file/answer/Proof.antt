@@ -20,9 +20,10 @@ returns c =
 returns-2 : tie.Need-returns-2
 unfolding summed
 returns-2 c =
-    let w = c .before .before .before .before .before .before .before .before .before in
+    let e = c .before .before .before .before .before in
+    let w = e .before .before .before .before in
     let s = w .before .before .before .before .args .file .now in
-    let a = w .walk-file .ensures .passes (c .before .before .before .before .before .if1 .left) in
+    let a = w .walk-file .ensures .passes (e .if1 .left) in
     let f = c .before .before .before .rounded .ensures ∙ file-figures s (a .c) (a .accepts) _ (a .holds .sums-are refl) in
     let n = a .holds .counts-are ∙ sym (summed-counts s (a .c)) in
     (λ i. record { number = 0; slot = 0; annual = f i .annual; peak = f i .peak; counts = n i })

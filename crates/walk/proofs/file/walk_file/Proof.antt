@@ -1,23 +1,46 @@
 -- Each part is told of its questions, and goes on where the part before it ended.
 use native.Mathlib.Omega.{arith}
-use Rattle.slot_file.specs.Questions.{lastAsks}
-use Rattle.slot_file.specs.Meaning.{at-head, at-last}
+use Rattle.slot_file.specs.Questions.{headAsks, lastAsks}
+use Rattle.slot_file.specs.Meaning.{AllYes, at-head, at-last}
 use Rattle.slot_file.proofs.Outcomes.{sized}
 use Rattle.walk.proofs.file.walk_file.Statement.{statement}
 use Rattle.walk.proofs.file.walk_file.Tie as tie
+
+-- back from where the store chain has ended to its walk, to where the group chain has ended, to its walk, to where the head has passed, to the header, to the start
+abbrev at-stores : tie.Else3 → tie.After-walk-stores
+at-stores c = c .before .before .before .before .before
+
+abbrev at-groups-end : tie.After-walk-stores → tie.Else2
+at-groups-end c = c .before .before .before .before
+
+abbrev at-groups : tie.Else2 → tie.After-walk-groups
+at-groups c = c .before .before .before .before .before
+
+abbrev at-head-end : tie.After-walk-groups-arg → tie.Else1
+at-head-end c = c .before .before .before .before .before
+
+abbrev at-header : tie.Else1 → tie.After-read-header
+at-header c = c .before .before .before
+
+abbrev at-start : tie.After-read-header → tie.Start
+at-start c = c .before .before .before
+
+-- questions 1 to 5 are answered yes
+headed : (c : tie.Else1) → AllYes (headAsks (at-start (at-header c) .args .file .now))
+headed c = c .before .before .ask-head .ensures .all (c .if1 .left)
 
 returns : tie.Need-returns
 returns c = record { refuses = λ z. at-head (c .before .before .before .ask-head .ensures .first z); passes = λ y. absurd (c .before .if1 .taken y) }
 
 walk-groups-requires : tie.Need-walk-groups-requires
 walk-groups-requires c κs =
-    let a = c .before .before .before .before .before in
+    let h = at-head-end c in
     record {
-      head = a .before .before .ask-head .ensures .all (a .if1 .left);
-      header = a .before .before .before .read-header .ensures;
+      head = headed h;
+      header = at-header h .read-header .ensures;
       none-marked = c .before .before .before .before .no-marks .ensures;
       none-reached = c .before .before .before .no-marks2 .ensures;
-      none-summed = a .before .before .before .before .before .before .pre;
+      none-summed = at-start (at-header h) .pre;
     }
 
 returns-2 : tie.Need-returns-2
@@ -25,26 +48,27 @@ returns-2 c = record { refuses = c .before .before .before .before .before .walk
 
 walk-stores-requires : tie.Need-walk-stores-requires
 walk-stores-requires c κs =
-    let d = c .before .before .before .before .before .before .before .before in
-    let b = d .before .before .before .before .before .before in
-    record {
-      head = b .before .before .ask-head .ensures .all (b .if1 .left);
-      header = b .before .before .before .read-header .ensures;
-      groups = d .walk-groups .ensures .ended (c .before .before .before .if2 .left);
-    }
+    let e = c .before .before .before in
+    let g = at-groups e in
+    let h = at-head-end (g .before) in
+    record { head = headed h; header = at-header h .read-header .ensures; groups = g .walk-groups .ensures .ended (e .if2 .left) }
 
 returns-3 : tie.Need-returns-3
 returns-3 c = record { refuses = c .before .before .before .before .before .walk-stores .ensures .refuses; passes = λ y. absurd (c .if3 .taken y) }
 
+-- and so they are where the store chain has ended
+abbrev passed-head : tie.Else3 → tie.Else1
+passed-head c = at-head-end (at-groups (at-groups-end (at-stores c)) .before)
+
 ask-reached-requires : tie.Need-ask-reached-requires
-ask-reached-requires c κs = let b = c .before .before .before .before .before .before .before .before .before .before .before .before .before .before .before .before .before .before .before .before .before .before in sized _ (b .before .before .ask-head .ensures .all (b .if1 .left))
+ask-reached-requires c κs = sized _ (headed (passed-head (c .before .before)))
 
 returns-4 : tie.Need-returns-4
 unfolding lastAsks
 returns-4 c =
-    let b = c .before .before .before .before .before .before .before .before .before .before .before .before .before .before .before .before .before .before .before .before .before .before .before in
-    let h = b .before .before .ask-head .ensures .all (b .if1 .left) in
-    let p = c .before .before .before .before .before .before .before .before .walk-stores .ensures .ended (c .before .before .before .if3 .left) .passed in
+    let e = c .before .before .before in
+    let h = headed (passed-head e) in
+    let p = at-stores e .walk-stores .ensures .ended (e .if3 .left) .passed in
     let t = c .ask-reached .ensures _ (p .holds .reached-are) in
     record {
       refuses = λ z. at-last (p .c) h (p .group-chain) (p .chain) (t .first z);

@@ -28,7 +28,9 @@ element-write-reached : tie.Need-element-write-reached
 element-write-reached c = omega (arith, c .before .before .ask-link .ensures .below (c .if1 .left))
 
 read-rows-requires : tie.Need-read-rows-requires
-read-rows-requires c κs = (omega arith, ap (λ (r : GroupRead). r .first) (c .before .before .before .before .before .before .read-group .ensures))
+read-rows-requires c κs =
+    let l = c .before .before .before in
+    (omega arith, ap (λ (r : GroupRead). r .first) (l .before .before .before .read-group .ensures))
 
 returns-2 : tie.Need-returns-2
 unfolding groupAt groupRead

@@ -2,7 +2,7 @@
 -- ends.
 use native.Mathlib.Omega.{arith}
 use Prim.Native.Nat.{_-_}
-use mathlib.Core.Path.{refl, sym, ap, subst, _∙_}
+use mathlib.Core.Path.{_≡_, refl, sym, ap, subst, _∙_}
 use mathlib.Core.List.{List, []}
 use lib.IntN.{ℤ}
 use lib.ListN.{length}
@@ -44,55 +44,68 @@ loop-holds c =
       };
     }
 
+-- back from where a group is added to where it is stepped on, to the loop, and to the start
+abbrev at-step : tie.After-add-group Inv-loop μ-loop → tie.After-step-group Inv-loop μ-loop
+at-step c = c .before .before .before .before .before
+
+abbrev at-loop : tie.After-step-group Inv-loop μ-loop → tie.At-loop Inv-loop μ-loop
+at-loop c = c .before .before .before .before
+
+abbrev at-start : tie.At-loop Inv-loop μ-loop → tie.Start Inv-loop μ-loop
+at-start c = c .before .before .before .before .before
+
 step-group-requires : tie.Need-step-group-requires Inv-loop μ-loop
-step-group-requires c κs = (bytes-most _ (c .before .before .before .before .before .before .before .before .pre .head), c .before .before .loop-test .taken)
+step-group-requires c κs = (bytes-most _ (at-start (c .before .before .before) .pre .head), c .before .before .loop-test .taken)
+
+-- the sums have the room that they began with
+same-room : (b : tie.At-loop Inv-loop μ-loop) → length (b .loop .totals) ≡ length (at-start b .args .totals .now)
+same-room b = b .loop .inv .holds .room ∙ sym (ap length (at-start b .pre .none-summed))
 
 same-length : tie.Need-same-length Inv-loop μ-loop
-same-length c =
-    let b = c .before .before .before .before .before .before .before in
-    b .loop .inv .holds .room ∙ sym (ap length (b .before .before .before .before .before .pre .none-summed))
+same-length c = same-room (at-loop (c .before .before .before))
 
 returns : tie.Need-returns Inv-loop μ-loop
 returns c =
-    let b = c .before .before .before .before .before .before .before in
+    let d = c .before .before .before in
+    let b = at-loop d in
     let p = b .loop .inv in
-    let t = c .before .before .before .step-group .ensures in
     record {
-      refuses = λ z. at-group (groupsSoFar (p .gs)) (b .loop .link) (b .before .before .before .before .before .pre .head) (p .chain) (c .before .before .before .before .before .before .loop-test .taken)
-          (t .told (groupsSoFar (p .gs)) (p .holds .sources-are) (p .holder-is) .first z);
+      refuses = λ z. at-group (groupsSoFar (p .gs)) (b .loop .link) (at-start b .pre .head) (p .chain) (d .before .before .before .loop-test .taken)
+          (d .step-group .ensures .told (groupsSoFar (p .gs)) (p .holds .sources-are) (p .holder-is) .first z);
       ended = λ y. absurd (c .if1 .taken y);
     }
 
 add-counts : tie.Need-add-counts Inv-loop μ-loop
 add-counts c =
-    let b = c .before .before .before .before .before .before .before .before .before .before .before .before in
-    omega (arith, groups-few _ (b .before .before .before .before .before .pre .head) (b .loop .inv))
+    let b = at-loop (at-step (c .before .before .before)) in
+    omega (arith, groups-few _ (at-start b .pre .head) (b .loop .inv))
 
 loop-less : tie.Need-loop-less Inv-loop μ-loop
 loop-less c =
-    let b = c .before .before .before .before .before .before .before .before .before .before .before .before in
-    omega (arith, groups-few _ (b .before .before .before .before .before .pre .head) (b .loop .inv))
+    let b = at-loop (at-step (c .before .before .before)) in
+    omega (arith, groups-few _ (at-start b .pre .head) (b .loop .inv))
 
 loop-again : tie.Need-loop-again Inv-loop μ-loop
 unfolding temperaturesAt
 loop-again c =
-    let d = c .before .before .before .before .before .before .before .before in
-    let b = d .before .before .before .before in
-    let a = b .before .before .before .before .before in
+    let l = c .before .before .before in
+    let d = at-step l in
+    let b = at-loop d in
+    let a = at-start b in
     let r = d .step-group .result in
     let e = ap (λ (h : Header). h .temperatures) (a .pre .header) in
-    group-passed _ (a .pre .head) (b .loop .inv) (d .before .before .before .loop-test .taken) (d .step-group .ensures) (c .before .before .before .before .before .if1 .left)
-    (c .before .before .before .add-group .ensures ∙ ap (λ (ts : List ℤ). plusGroup (a .args .summing) (b .loop .totals) (groupAnswer (r .group) ts (r .coefficients))) e)
+    group-passed _ (a .pre .head) (b .loop .inv) (d .before .before .before .loop-test .taken) (d .step-group .ensures) (l .before .before .if1 .left)
+    (l .add-group .ensures ∙ ap (λ (ts : List ℤ). plusGroup (a .args .summing) (b .loop .totals) (groupAnswer (r .group) ts (r .coefficients))) e)
 
 same-length-2 : tie.Need-same-length-2 Inv-loop μ-loop
-same-length-2 c = c .before .before .loop .inv .holds .room ∙ sym (ap length (c .before .before .before .before .before .before .before .pre .none-summed))
+same-length-2 c = same-room (c .before .before)
 
 returns-2 : tie.Need-returns-2 Inv-loop μ-loop
 returns-2 c =
     let b = c .before .before in
     record {
       refuses = λ z. absurd (z (ap (λ (v : Verdict). v .number) (c .accept .ensures)));
-      ended = λ _. groups-ended _ (b .before .before .before .before .before .pre .head) (b .loop .inv) (c .before .loop-test .left);
+      ended = λ _. groups-ended _ (at-start b .pre .head) (b .loop .inv) (c .before .loop-test .left);
     }
 
 pub walk-groups-spec : {M : Type 1} → statement M

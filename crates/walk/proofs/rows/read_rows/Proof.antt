@@ -51,27 +51,33 @@ returns c =
       marks = λ z. absurd (c .if1 .taken z);
     }
 
+-- back from where a row has passed to the loop
+abbrev at-loop : tie.Else1 Inv-loop μ-loop → tie.At-loop Inv-loop μ-loop
+at-loop c = c .before .before .before .before .before
+
 element-write-reached : tie.Need-element-write-reached Inv-loop μ-loop
 unfolding coefficientAsks
 element-write-reached c =
-    let b = c .before .before .before .before .before .before .before in
+    let p = c .before .before in
+    let b = at-loop p in
     let a = b .before .before .before .args in
-    let told = c .before .before .before .before .ask-row .ensures (a .g) (b .loop .inv .3) (b .loop .inv .4) (c .before .before .before .before .before .row-at .ensures) in
-    let l = ltb-true (coefficientSlot (a .file .now) (a .g) (b .loop .n)) (slotCount (a .file .now)) (told .all (c .before .before .if1 .left) .1 .0) in
+    let told = p .before .before .ask-row .ensures (a .g) (b .loop .inv .3) (b .loop .inv .4) (p .before .before .before .row-at .ensures) in
+    let l = ltb-true (coefficientSlot (a .file .now) (a .g) (b .loop .n)) (slotCount (a .file .now)) (told .all (p .if1 .left) .1 .0) in
     omega (arith, l, b .loop .inv .4)
 
 loop-again : tie.Need-loop-again Inv-loop μ-loop
 unfolding coefficientHolder coefficientSlot marksTo
 loop-again c =
-    let b = c .before .before .before .before .before .before .before in
+    let p = c .before .before in
+    let b = at-loop p in
     let a = b .before .before .before .args in
     let s = a .file .now in
-    let row = c .before .before .before .before .before .row-at .ensures in
-    let told = c .before .before .before .before .ask-row .ensures (a .g) (b .loop .inv .3) (b .loop .inv .4) row in
+    let row = p .before .before .before .row-at .ensures in
+    let told = p .before .before .ask-row .ensures (a .g) (b .loop .inv .3) (b .loop .inv .4) row in
     let e = b .loop .inv .4 in (
       omega arith,
       search needs,
-      rows-yes s (a .g) (b .loop .n) (b .loop .inv .2) (told .all (c .before .before .if1 .left)),
+      rows-yes s (a .g) (b .loop .n) (b .loop .inv .2) (told .all (p .if1 .left)),
       rw add-one e,
       rw add-one (ap (λ (r : CoefficientsRead). r .next) row ∙ ap (λ (k : ℕ). coefficientsRead (slotOf s k) .next) e),
       rw (add-one, c .slot-index .ensures) (λ i. set (b .loop .inv .5 i) (e i) true),

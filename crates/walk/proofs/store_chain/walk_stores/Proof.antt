@@ -2,7 +2,8 @@
 -- chain of different slots ends.
 use native.Mathlib.Omega.{arith}
 use Prim.Native.Nat.{_-_}
-use mathlib.Core.Path.{refl, sym, ap, _∙_}
+use mathlib.Core.Path.{_≡_, refl, sym, ap, _∙_}
+use lib.ListN.{length}
 use Rattle.sums.specs.declared.answer.Verdict.{Verdict}
 use Rattle.slots.specs.declared.header.Header.{Header}
 use Rattle.slot_file.specs.Questions.{mostSlots, groupsSoFar, storesSoFar}
@@ -32,51 +33,64 @@ loop-holds c =
       holds = p .holds;
     }
 
+-- back from where a store record is added to where it is stepped on, to the loop, and to the start
+abbrev at-step : tie.After-add-store Inv-loop μ-loop → tie.After-step-store Inv-loop μ-loop
+at-step c = c .before .before .before .before .before
+
+abbrev at-loop : tie.After-step-store Inv-loop μ-loop → tie.At-loop Inv-loop μ-loop
+at-loop c = c .before .before .before .before
+
+abbrev at-start : tie.At-loop Inv-loop μ-loop → tie.Start Inv-loop μ-loop
+at-start c = c .before .before .before .before
+
 step-store-requires : tie.Need-step-store-requires Inv-loop μ-loop
-step-store-requires c κs = (bytes-most _ (c .before .before .before .before .before .before .before .pre .head), c .before .before .loop-test .taken)
+step-store-requires c κs = (bytes-most _ (at-start (c .before .before .before) .pre .head), c .before .before .loop-test .taken)
+
+-- the sums have the room that they began with
+same-room : (b : tie.At-loop Inv-loop μ-loop) → length (b .loop .totals) ≡ length (at-start b .args .totals .now)
+same-room b = b .loop .inv .holds .room ∙ sym (at-start b .pre .groups .passed .holds .room)
 
 same-length : tie.Need-same-length Inv-loop μ-loop
-same-length c =
-    let b = c .before .before .before .before .before .before .before in
-    b .loop .inv .holds .room ∙ sym (b .before .before .before .before .pre .groups .passed .holds .room)
+same-length c = same-room (at-loop (c .before .before .before))
 
 returns : tie.Need-returns Inv-loop μ-loop
 returns c =
-    let b = c .before .before .before .before .before .before .before in
+    let d = c .before .before .before in
+    let b = at-loop d in
     let p = b .loop .inv in
-    let t = c .before .before .before .step-store .ensures in
     record {
-      refuses = λ z. at-store (p .c) (b .loop .link) (b .before .before .before .before .pre .head) (p .group-chain) (p .chain)
-          (c .before .before .before .before .before .before .loop-test .taken) (t .told (storesSoFar (p .c) (p .c .stores)) (p .holds .sources-are) (p .holder-is) .first z);
+      refuses = λ z. at-store (p .c) (b .loop .link) (at-start b .pre .head) (p .group-chain) (p .chain)
+          (d .before .before .before .loop-test .taken) (d .step-store .ensures .told (storesSoFar (p .c) (p .c .stores)) (p .holds .sources-are) (p .holder-is) .first z);
       ended = λ y. absurd (c .if1 .taken y);
     }
 
 add-counts : tie.Need-add-counts Inv-loop μ-loop
 add-counts c =
-    let b = c .before .before .before .before .before .before .before .before .before .before .before .before in
-    omega (arith, stores-few _ (b .before .before .before .before .pre .head) (b .loop .inv))
+    let b = at-loop (at-step (c .before .before .before)) in
+    omega (arith, stores-few _ (at-start b .pre .head) (b .loop .inv))
 
 loop-less : tie.Need-loop-less Inv-loop μ-loop
 loop-less c =
-    let b = c .before .before .before .before .before .before .before .before .before .before .before .before in
-    omega (arith, stores-few _ (b .before .before .before .before .pre .head) (b .loop .inv))
+    let b = at-loop (at-step (c .before .before .before)) in
+    omega (arith, stores-few _ (at-start b .pre .head) (b .loop .inv))
 
 loop-again : tie.Need-loop-again Inv-loop μ-loop
 loop-again c =
-    let d = c .before .before .before .before .before .before .before .before in
-    let b = d .before .before .before .before in
-    store-passed _ (b .before .before .before .before .pre .head) (b .loop .inv) (d .before .before .before .loop-test .taken) (d .step-store .ensures) (c .before .before .before .before .before .if1 .left)
-    (c .before .before .before .add-store .ensures)
+    let l = c .before .before .before in
+    let d = at-step l in
+    let b = at-loop d in
+    store-passed _ (at-start b .pre .head) (b .loop .inv) (d .before .before .before .loop-test .taken) (d .step-store .ensures) (l .before .before .if1 .left)
+    (l .add-store .ensures)
 
 same-length-2 : tie.Need-same-length-2 Inv-loop μ-loop
-same-length-2 c = c .before .before .loop .inv .holds .room ∙ sym (c .before .before .before .before .before .before .pre .groups .passed .holds .room)
+same-length-2 c = same-room (c .before .before)
 
 returns-2 : tie.Need-returns-2 Inv-loop μ-loop
 returns-2 c =
     let b = c .before .before in
     record {
       refuses = λ z. absurd (z (ap (λ (v : Verdict). v .number) (c .accept .ensures)));
-      ended = λ _. stores-ended _ (b .before .before .before .before .pre .head) (b .loop .inv) (c .before .loop-test .left);
+      ended = λ _. stores-ended _ (at-start b .pre .head) (b .loop .inv) (c .before .loop-test .left);
     }
 
 pub walk-stores-spec : {M : Type 1} → statement M
