@@ -3,7 +3,7 @@
 -- nothing.
 use Prim.Native.Nat.{ℕ, _*_, _<_}
 use native.Mathlib.Omega.{arith}
-use mathlib.Core.Path.{_≡_, sym, ap, _∙_}
+use mathlib.Core.Path.{_≡_, refl, sym, ap, _∙_}
 use mathlib.Core.List.{List, map, reverse}
 use lib.Dec.{lit<}
 use lib.IntN.{ℤ}
@@ -64,3 +64,7 @@ summed-counts s c =
     let g = length-map (reverse (c .groups)) (groupAt s) ∙ length-reverse (c .groups) in
     let k = length-map (reverse (c .stores)) (storeAt s) ∙ length-reverse (c .stores) in
     λ i. record { groups = g i; stores = k i }
+
+pub summed-zero : (v : Inventory) → (summed v .number ≡ 0) × (summed v .slot ≡ 0)
+unfolding summed
+summed-zero v = (refl, refl)

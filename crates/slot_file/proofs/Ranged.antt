@@ -27,6 +27,15 @@ module _ (s : List ℕ) (c : Chains) (g : ℕ) (a : AllYes (groupAsks s c g)) wh
   abbrev rows : List Question
   rows = rowsAsks s g pollutantCount
 
+  -- what is asked of the coefficient link at place n, and after the sixth
+  pub row-asked : (n : ℕ) → n < pollutantCount → AllYes (coefficientAsks s g n)
+  unfolding groupAsks
+  row-asked n h = row-yes s g pollutantCount n h (all-right (groupLinkAsks s c g) rows (all-left (groupLinkAsks s c g ++ rows) (closingAsks s g) a))
+
+  pub closing-asked : AllYes (closingAsks s g)
+  unfolding groupAsks
+  closing-asked = all-right (groupLinkAsks s c g ++ rows) (closingAsks s g) a
+
   pub group-in-range : groupInRange (groupAt s g .group) ≡ true
   unfolding groupAsks linkAsks groupAt groupRead groupGood
   group-in-range =
@@ -34,20 +43,19 @@ module _ (s : List ℕ) (c : Chains) (g : ℕ) (a : AllYes (groupAsks s c g)) wh
       nth (groupInRange (groupOf t) ∷ leb (byteAt t 5) 3 ∷ zeroFrom t 36 28 ∷ []) (yes-at (groupAsks s c g) a 3) 0
 
   pub row-in-range : (p : ℕ) → p < pollutantCount → coefficientsInRange (getD (groupAt s g .coefficients) p noCoefficients) ≡ true
-  unfolding groupAsks linkAsks coefficientAsks groupAt coefficientsRead coefficientsGood
+  unfolding coefficientAsks groupAt coefficientsRead coefficientsGood
   row-in-range p h =
       let t = slotOf s (coefficientSlot s g p) in
-      let r = row-yes s g pollutantCount p h (all-right (groupLinkAsks s c g) rows (all-left (groupLinkAsks s c g ++ rows) (closingAsks s g) a)) in
       rw (listTo-at noCoefficients pollutantCount (λ (n : ℕ). coefficientsOf (slotOf s (coefficientSlot s g n))) p h)
-      (nth (coefficientsInRange (coefficientsOf t) ∷ zeroFrom t 32 32 ∷ []) (yes-at (coefficientAsks s g p) r 3) 0)
+      (nth (coefficientsInRange (coefficientsOf t) ∷ zeroFrom t 32 32 ∷ []) (yes-at (coefficientAsks s g p) (row-asked p h) 3) 0)
 
   rows-in-range : allInRange (groupAt s g .coefficients) ≡ true
   unfolding allInRange
   rows-in-range = allTo-of pollutantCount (λ (p : ℕ). coefficientsInRange (getD (groupAt s g .coefficients) p noCoefficients)) row-in-range
 
   pub zero-where-due : zeroWhereDue (groupAt s g .group) (groupAt s g .coefficients) ≡ true
-  unfolding groupAsks closingAsks
-  zero-where-due = yes-at (closingAsks s g) (all-right (groupLinkAsks s c g ++ rows) (closingAsks s g) a) 1
+  unfolding closingAsks
+  zero-where-due = yes-at (closingAsks s g) closing-asked 1
 
   pub all-in-range : AllYes (headAsks s) → inRange (groupAt s g .group) (temperaturesAt s) (groupAt s g .coefficients) ≡ true
   unfolding inRange headAsks temperaturesAt

@@ -22,8 +22,7 @@ pub all-reached : (s : List ℕ) (c : Chains) → Accepts s c → (j : ℕ) → 
 unfolding lastAsks
 all-reached s c a j p q = all-in (slotCount s - 1) 1 (reachedOf s c) (a .last) j p (omega arith)
 
-record Lowest (n i : ℕ) (l : List ℕ) (m k : ℕ) : Type 0 where
-  number : m ≡ 12
+record Lowest (n i : ℕ) (l : List ℕ) (k : ℕ) : Type 0 where
   from : i ≤ k
   below : k < i + n
   out : member k l ≡ false
@@ -37,16 +36,15 @@ split q qs n k (later _ _ e h) f g = g e h
 none : {P : Type 0} (n k : ℕ) → FirstNo [] n k → P
 none n k = elim [ ]
 
-lowest-no : (n i : ℕ) (l : List ℕ) (m k : ℕ) → FirstNo (reachAsks n i l) m k → Lowest n i l m k
+lowest-no : (n i : ℕ) (l : List ℕ) (m k : ℕ) → FirstNo (reachAsks n i l) m k → Lowest n i l k
 unfolding reachAsks
 lowest-no zero i l m k f = none m k f
 lowest-no (suc n) i l m k f =
     split (question (member i l) 12 i) (reachAsks n (i + 1) l) m k f
-    (λ e p q. record { number = p; from = omega arith; below = omega arith; out = rw q e; lower = λ j a b. absurd (omega arith) })
+    (λ e p q. record { from = omega arith; below = omega arith; out = rw q e; lower = λ j a b. absurd (omega arith) })
     (λ e g.
     let h = lowest-no n (i + 1) l m k g in
     record {
-      number = h .number;
       from = omega arith;
       below = omega arith;
       out = h .out;
@@ -54,8 +52,8 @@ lowest-no (suc n) i l m k f =
     })
 
 -- the slot of a refusal by the last questions is the lowest that is not reached
-pub lowest-unreached : (s : List ℕ) (c : Chains) (n k : ℕ) → FirstNo (lastAsks s c) n k → LowestUnreached s c n k
+pub lowest-unreached : (s : List ℕ) (c : Chains) (n k : ℕ) → FirstNo (lastAsks s c) n k → LowestUnreached s c k
 unfolding lastAsks
 lowest-unreached s c n k f =
     let h = lowest-no (slotCount s - 1) 1 (reachedOf s c) n k f in
-    record { number = h .number; from = h .from; below = omega arith; out = h .out; lower = h .lower }
+    record { from = h .from; below = omega arith; out = h .out; lower = h .lower }

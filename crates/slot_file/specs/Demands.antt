@@ -1,5 +1,5 @@
 -- The letter's three demands, as what is claimed of a file. The claims are proved in `proofs/Demands`.
-use Prim.Native.Nat.{ℕ, _<_, _≤_}
+use Prim.Native.Nat.{ℕ, _+_, _<_, _≤_}
 use mathlib.Core.Path.{_≡_}
 use mathlib.Core.Logic.{_↔_}
 use mathlib.Core.Bool.{true, false}
@@ -8,51 +8,64 @@ use lib.IntN.{ℤ}
 use lib.ListN.{getD}
 use Rattle.sums.specs.Fraction.{whole, _⊙_}
 use Rattle.sums.specs.Figures.{Rounded}
-use Rattle.sums.specs.Answer.{Contribution, noEmission}
+use Rattle.sums.specs.Answer.{Contribution, noRefusal, noEmission}
 use Rattle.sums.specs.Exactness.{Exactly}
 use Rattle.sums.specs.declared.answer.Emission.{Emission}
 use Rattle.sums.specs.declared.answer.Verdict.{Verdict}
-use Rattle.vehicle_fields.specs.Fields.{noCoefficients}
+use Rattle.vehicle_fields.specs.Fields.{pollutantCount, noCoefficients}
 use Rattle.vehicles.specs.Rules.{emissionCount, contributionOf, groupAnswer}
 use Rattle.stores.specs.Rules.{handlingContribution, standingContribution, aspirationContribution, handlingAnswer, standingAnswer, aspirationAnswer}
+use Rattle.slots.specs.Bytes.{slotOf}
+use Rattle.slots.specs.Layout.{coefficientsRead}
 use Rattle.slots.specs.declared.store.StoreRecord.{StoreRecord}
 use Rattle.slots.specs.declared.store.StoreRecord.the-variants.{Handling, Standing, Aspiration}
-use Rattle.slot_file.specs.Sources.{VehicleGroup, Chains, Inventory}
-use Rattle.slot_file.specs.Questions.{slotCount, member, reachedOf}
-use Rattle.slot_file.specs.Meaning.{Accepts, Refuses}
+use Rattle.slot_file.specs.Sources.{coefficientSlot, VehicleGroup, Chains, Inventory}
+use Rattle.slot_file.specs.Questions.{lastNumber, slotCount, member, reachedOf}
+use Rattle.slot_file.specs.Meaning.{Groups, Stores, Accepts, Refuses}
 use Rattle.slot_file.specs.Codes.{codes}
 use Rattle.slot_file.specs.Figures.{exactSum, countsOf, refusal, answer}
 
--- DEMAND 1: "either accepted or refused by number and slot. It is accepted exactly when every question in document 01 is answered yes"; "A refusal gives no
--- figures": of a check's number and slot
-pub record Checked (s : List ℕ) (v : Verdict) : Type 0 where
-  pub accepted-when : (v .number ≡ 0) ↔ ((c : Chains) × Accepts s c)
-  pub refused-by : (v .number ≡ 0 → ⊥) → Refuses s (v .number) (v .slot)
-  pub no-figures : (v .number ≡ 0 → ⊥) → answer s ≡ refusal (v .number) (v .slot)
-
--- "the lowest unreached for 12": the slot k of a refusal by question 12, where the chains are c
-pub record LowestUnreached (s : List ℕ) (c : Chains) (n k : ℕ) : Type 0 where
-  pub number : n ≡ 12
+-- "the lowest unreached for 12": k, where the chains are c
+pub record LowestUnreached (s : List ℕ) (c : Chains) (k : ℕ) : Type 0 where
   pub from : 1 ≤ k
   pub below : k < slotCount s
   pub out : member k (reachedOf s c) ≡ false
   pub lower : (j : ℕ) → 1 ≤ j → j < k → member j (reachedOf s c) ≡ true
 
--- an emission is just what is given: its code, and its tonnes and grams with "nothing rounded on the way"
-pub record Gives (e : Emission) (x : Contribution) : Type 0 where
+-- DEMAND 1: "either accepted or refused by number and slot. It is accepted exactly when every question in document 01 is answered yes, and one of those questions is
+-- whether each slot is reached from the header. A refusal gives no figures": of a check's number and slot, and of the answer, which has the same
+pub record Checked (s : List ℕ) (v : Verdict) : Type 0 where
+  pub accepted-when : (v .number ≡ 0) ↔ ((c : Chains) × Accepts s c)
+  pub refused-by : (v .number ≡ 0 → ⊥) → Refuses s (v .number) (v .slot)
+  pub numbered : v .number ≤ lastNumber
+  pub no-slot : v .number ≡ 0 → v .slot ≡ 0
+  pub same : (answer s .number ≡ v .number) × (answer s .slot ≡ v .slot)
+  pub no-figures : (v .number ≡ 0 → ⊥) → answer s ≡ refusal (v .number) (v .slot)
+  pub lowest : v .number ≡ lastNumber → (c : Chains) × Groups s c 0 × Stores s c 0 × LowestUnreached s c (v .slot)
+
+-- "We don't want a program that supplies a missing coefficient from a similar vehicle": a group's six coefficient slots are of the six pollutants in turn, and then
+-- their chain ends
+pub record OwnCoefficients (s : List ℕ) (g : ℕ) : Type 0 where
+  pub in-turn : (n : ℕ) → n < pollutantCount → coefficientsRead (slotOf s (coefficientSlot s g n)) .pollutant ≡ n + 1
+  pub ends : coefficientSlot s g pollutantCount ≡ 0
+
+-- what a rule answers, v and e, is just what is given: not refused, its code, one of the listing's, and its tonnes and grams with "nothing rounded on the way"
+pub record Gives (v : Verdict) (e : Emission) (x : Contribution) : Type 0 where
+  pub answered : v ≡ noRefusal
   pub code : e .code ≡ x .code
+  pub listed : member (x .code) codes ≡ true
   pub exactly : Exactly e (x .tonnes) (x .rate)
 
--- "of each source and each pollutant": what the rules answer of a group, and of a store record, is what the methodology's formulas and tables give
+-- "of each source and each pollutant": of a group, and of a store record, this is what the methodology's formulas and tables give
 abbrev pub GroupGives : List ℤ → VehicleGroup → Type 0
 GroupGives ts v =
-    (p : ℕ) → p < emissionCount
-    → Gives (getD (groupAnswer (v .group) ts (v .coefficients) .emissions) p noEmission) (contributionOf (v .group) ts (getD (v .coefficients) p noCoefficients) p)
+    let a = groupAnswer (v .group) ts (v .coefficients) in
+    (p : ℕ) → p < emissionCount → Gives (a .verdict) (getD (a .emissions) p noEmission) (contributionOf (v .group) ts (getD (v .coefficients) p noCoefficients) p)
 
 abbrev pub StoreGives : StoreRecord → Type 0
-StoreGives (Handling h) = Gives (handlingAnswer h .emission) (handlingContribution h)
-StoreGives (Standing s) = Gives (standingAnswer s .emission) (standingContribution s)
-StoreGives (Aspiration a) = Gives (aspirationAnswer a .emission) (aspirationContribution a)
+StoreGives (Handling h) = Gives (handlingAnswer h .verdict) (handlingAnswer h .emission) (handlingContribution h)
+StoreGives (Standing s) = Gives (standingAnswer s .verdict) (standingAnswer s .emission) (standingContribution s)
+StoreGives (Aspiration a) = Gives (aspirationAnswer a .verdict) (aspirationAnswer a .emission) (aspirationContribution a)
 
 abbrev pub Each : {A : Type 0} → (A → Type 0) → List A → Type 0
 Each P [] = Unit {0}

@@ -3,6 +3,7 @@ use Prim.Native.Nat.{ℕ, zero, suc}
 use mathlib.Core.List.{List, [], _∷_}
 use lib.Dec.{eqb}
 use Rattle.sums.specs.Choice.{if_then_else}
+use Rattle.sums.specs.Answer.{noRefusal}
 use Rattle.sums.specs.declared.answer.Verdict.{Verdict}
 use Rattle.slots.specs.Bytes.{slotOf}
 use Rattle.slots.specs.Layout.{nextOf}
@@ -36,5 +37,5 @@ outcome s = first (headAsks s) (groupWalk s)
 
 -- what a check answers: "either accepted or refused by number and slot"; 0 and 0 of an accepted file
 abbrev pub told : Outcome → Verdict
-told (accepted c) = record { number = 0; slot = 0 }
+told (accepted c) = noRefusal
 told (refused n k) = record { number = n; slot = k }

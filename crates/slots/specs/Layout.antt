@@ -1,10 +1,11 @@
 -- 01, "The slot file": the fields of slot 0, a group, coefficients and a store record, by their byte positions.
 use Prim.Native.Nat.{ℕ, _+_, _*_, _/_, _%_}
 use mathlib.Core.Path.{_≡_}
-use mathlib.Core.Bool.{Bool, _&&_, _||_}
+use mathlib.Core.Bool.{Bool, true, _&&_, _||_}
 use mathlib.Core.List.{List, [], _∷_}
 use lib.Dec.{leb, eqb}
 use lib.IntN.{ℤ}
+use lib.ListN.{getD}
 use Rattle.sums.specs.Choice.{if_then_else, allOf, listTo}
 use Rattle.vehicle_fields.specs.Fields.{groupInRange, coefficientsInRange}
 use Rattle.vehicle_fields.specs.declared.group.Distances.{Distances}
@@ -190,8 +191,9 @@ readValues (Record r) = storeFields r
 readValues WrongKind = []
 readValues OutOfRange = []
 
--- a store record's read is right where it is the one of the slot, with the paper's number and values
+-- a store record's read is right where it is the one of the slot, with the paper's number and values; the first value is the slot's own kind
 pub record StoreReads (t : List ℕ) (r : StoreRead) : Type 0 where
   pub read : r ≡ readStore t
   pub number : readNumber r ≡ numberOf (storeKind t) (storeGood t)
   pub values : readValues r ≡ if_then_else (storeKind t && storeGood t) (storeFields (storeOf t)) []
+  pub kind : storeKind t ≡ true → getD (storeFields (storeOf t)) 0 0 ≡ byteAt t 2
