@@ -18,17 +18,19 @@ use Rattle.sums.proofs.Rounding.{rounded}
 use Rattle.stores.specs.Rules.{dustCodes, dustCode, handlingAnswer, standingAnswer, aspirationAnswer}
 use Rattle.stores.proofs.Ranges.{handling, standing, aspiration}
 use Rattle.stores.proofs.Exactly.{handling-emitted, handling-exactly, standing-emitted, standing-exactly, aspiration-emitted, aspiration-exactly}
-use Rattle.vehicle_fields.specs.Fields.{noCoefficients}
+use Rattle.vehicle_fields.specs.Fields.{pollutantCount, noCoefficients}
 use Rattle.vehicles.specs.Rules.{petrolCodes, dieselCodes, pollutantCode, emissionCount, emissionOf, emissionsOf, groupAnswer}
 use Rattle.vehicles.proofs.Bounds.{group-exactly}
+use Rattle.slots.specs.Bytes.{slotOf}
+use Rattle.slots.specs.Layout.{coefficientsOf, coefficientsRead}
 use Rattle.slots.specs.declared.store.StoreRecord.{StoreRecord}
 use Rattle.slots.specs.declared.store.StoreRecord.the-variants.{Handling, Standing, Aspiration}
-use Rattle.slot_file.specs.Sources.{groupAt, storeAt, temperaturesAt, Chains, inventoryAt}
+use Rattle.slot_file.specs.Sources.{coefficientSlot, groupAt, storeAt, temperaturesAt, Chains, inventoryAt}
 use Rattle.slot_file.specs.Questions.{lastNumber, headAsks, member, coefficientAsks, closingAsks, groupsSoFar, storesSoFar, groupAsks, storeAsks, Outcome, accepted, refused}
 use Rattle.slot_file.specs.Walk.{outcome, told}
 use Rattle.slot_file.specs.Meaning.{AllYes, Good, Groups, Stores, Accepts, Refuses}
 use Rattle.slot_file.specs.Codes.{codes, codeCount}
-use Rattle.slot_file.specs.Figures.{contributions, annualFigure, peakFigure, summed, answer, refusal}
+use Rattle.slot_file.specs.Figures.{groupContributions, contributions, annualFigure, peakFigure, summed, answer, refusal}
 use Rattle.slot_file.specs.Alike.{AlikeFiles}
 use Rattle.slot_file.specs.Listing.{Listed, listing, listed}
 use Rattle.slot_file.specs.declared.Answer.{Answer}
@@ -142,10 +144,11 @@ module _ (s : List ℕ) (h : AllYes (headAsks s)) where
   each-group (g ∷ b) w = (group-gives (groupsSoFar b) g (w .0), each-group b (w .1))
 
   own-row : (c : Chains) (g : ℕ) → AllYes (groupAsks s c g) → OwnCoefficients s g
-  unfolding coefficientAsks closingAsks
+  unfolding coefficientAsks closingAsks groupAt coefficientsRead
   own-row c g a = record {
     in-turn = λ n l. eqb-true _ _ (yes-at (coefficientAsks s g n) (row-asked s c g a n l) 4);
     ends = eqb-true _ 0 (yes-at (closingAsks s g) (closing-asked s c g a) 0);
+    used = λ n l. listTo-at noCoefficients pollutantCount (λ (m : ℕ). coefficientsOf (slotOf s (coefficientSlot s g m))) n l;
   }
 
   each-own : (gs : List ℕ) → Good (λ (b : List ℕ). groupAsks s (groupsSoFar b)) gs → Each (OwnCoefficients s) gs
@@ -168,13 +171,14 @@ module _ (s : List ℕ) (c : Chains) (v : outcome s ≡ accepted c) where
 
   -- DEMAND 2
   pub each-source : Worked s c (inventoryAt s c)
-  unfolding inventoryAt
+  unfolding inventoryAt contributions groupContributions
   each-source =
       let a = exactly-when s (accepted c) .0 v in
       record {
         groups = each-onto (GroupGives (temperaturesAt s)) (groupAt s) (c .groups) [] (each-group s (a .head) (c .groups) (a .groups .good)) tt;
         stores = each-onto StoreGives (storeAt s) (c .stores) [] (each-store s (a .head) c (c .stores) (a .stores .good)) tt;
         counts = ap (λ r. r .counts) (accepted-answer s c v) ∙ summed-counts s c;
+        summed = refl;
       }
 
   -- DEMAND 3, of every accepted file

@@ -1,4 +1,4 @@
--- A outcome means what the questions say, and only that outcome does. Each chain is walked by `Chains.walks`; what is asked of its slots keeps them different
+-- An outcome means what the questions say, and only that outcome does. Each chain is walked by `Chains.walks`; what is asked of its slots keeps them different
 -- and below the slot count, so the walk never runs out. Assumes nothing.
 use Prim.Native.Nat.{ℕ, suc, _%_, _<_, _≤_}
 use mathlib.Core.Path.{_≡_, refl, subst, _∙_}

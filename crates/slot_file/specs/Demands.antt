@@ -3,9 +3,10 @@ use Prim.Native.Nat.{ℕ, _+_, _<_, _≤_}
 use mathlib.Core.Path.{_≡_}
 use mathlib.Core.Logic.{_↔_}
 use mathlib.Core.Bool.{true, false}
-use mathlib.Core.List.{List, [], _∷_}
+use mathlib.Core.List.{List, [], _∷_, _++_}
 use lib.IntN.{ℤ}
 use lib.ListN.{getD}
+use Rattle.sums.specs.Choice.{listTo}
 use Rattle.sums.specs.Fraction.{whole, _⊙_}
 use Rattle.sums.specs.Figures.{Rounded}
 use Rattle.sums.specs.Answer.{Contribution, noRefusal, noEmission}
@@ -16,14 +17,14 @@ use Rattle.vehicle_fields.specs.Fields.{pollutantCount, noCoefficients}
 use Rattle.vehicles.specs.Rules.{emissionCount, contributionOf, groupAnswer}
 use Rattle.stores.specs.Rules.{handlingContribution, standingContribution, aspirationContribution, handlingAnswer, standingAnswer, aspirationAnswer}
 use Rattle.slots.specs.Bytes.{slotOf}
-use Rattle.slots.specs.Layout.{coefficientsRead}
+use Rattle.slots.specs.Layout.{coefficientsOf, coefficientsRead}
 use Rattle.slots.specs.declared.store.StoreRecord.{StoreRecord}
 use Rattle.slots.specs.declared.store.StoreRecord.the-variants.{Handling, Standing, Aspiration}
-use Rattle.slot_file.specs.Sources.{coefficientSlot, VehicleGroup, Chains, Inventory}
+use Rattle.slot_file.specs.Sources.{coefficientSlot, VehicleGroup, groupAt, Chains, Inventory}
 use Rattle.slot_file.specs.Questions.{lastNumber, slotCount, member, reachedOf}
 use Rattle.slot_file.specs.Meaning.{Groups, Stores, Accepts, Refuses}
 use Rattle.slot_file.specs.Codes.{codes}
-use Rattle.slot_file.specs.Figures.{exactSum, countsOf, refusal, answer}
+use Rattle.slot_file.specs.Figures.{storeContributions, gathered, contributions, exactSum, countsOf, refusal, answer}
 
 -- "the lowest unreached for 12": k, where the chains are c
 pub record LowestUnreached (s : List ℕ) (c : Chains) (k : ℕ) : Type 0 where
@@ -43,11 +44,12 @@ pub record Checked (s : List ℕ) (v : Verdict) : Type 0 where
   pub no-figures : (v .number ≡ 0 → ⊥) → answer s ≡ refusal (v .number) (v .slot)
   pub lowest : v .number ≡ lastNumber → (c : Chains) × Groups s c 0 × Stores s c 0 × LowestUnreached s c (v .slot)
 
--- "We don't want a program that supplies a missing coefficient from a similar vehicle": a group's six coefficient slots are of the six pollutants in turn, and then
--- their chain ends
+-- "We don't want a program that supplies a missing coefficient from a similar vehicle": a group's six coefficient slots are of the six pollutants in turn, then
+-- their chain ends, and the coefficients that it is summed with are those of these slots
 pub record OwnCoefficients (s : List ℕ) (g : ℕ) : Type 0 where
   pub in-turn : (n : ℕ) → n < pollutantCount → coefficientsRead (slotOf s (coefficientSlot s g n)) .pollutant ≡ n + 1
   pub ends : coefficientSlot s g pollutantCount ≡ 0
+  pub used : (n : ℕ) → n < pollutantCount → getD (groupAt s g .coefficients) n noCoefficients ≡ coefficientsOf (slotOf s (coefficientSlot s g n))
 
 -- what a rule answers, v and e, is just what is given: not refused, its code, one of the listing's, and its tonnes and grams with "nothing rounded on the way"
 pub record Gives (v : Verdict) (e : Emission) (x : Contribution) : Type 0 where
@@ -72,11 +74,14 @@ Each P [] = Unit {0}
 Each P (x ∷ xs) = P x × Each P xs
 
 -- DEMAND 2: "For an accepted file, the annual mass and the peak rate of each source and each pollutant are the fractions that the methodology's formulas and tables
--- give ... The answer also says how many vehicle groups and store records were summed, and those are the lengths of the two chains"
+-- give ... The answer also says how many vehicle groups and store records were summed, and those are the lengths of the two chains"; and just these are summed
 pub record Worked (s : List ℕ) (c : Chains) (v : Inventory) : Type 0 where
   pub groups : Each (GroupGives (v .temperatures)) (v .groups)
   pub stores : Each StoreGives (v .stores)
   pub counts : answer s .counts ≡ countsOf c
+  pub summed : contributions v
+      ≡ gathered (λ (g : VehicleGroup). listTo emissionCount (λ (p : ℕ). contributionOf (g .group) (v .temperatures) (getD (g .coefficients) p noCoefficients) p)) (v .groups)
+      ++ gathered storeContributions (v .stores)
 
 -- DEMAND 3: "In every accepted file each figure equals the exact sum over all sources, the annual one over all months too, rounded once": at the place i of the
 -- listing, in millionths of a tonne and ten-millionths of a gram per second, of that place's code; what each source gives is xs

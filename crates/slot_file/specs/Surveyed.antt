@@ -179,7 +179,7 @@ answerOfB = record {
   counts = record { groups = 1; stores = 0 };
 }
 
--- ---- not of 01's examples: a file for each number of its table of questions, and for each way to come to it
+-- ---- not of 01's examples: a file for each number from 1 to 10 and for 12, for some by several ways
 abbrev no : List ℕ → String → Row
 no f t = given f [] (text t)
 

@@ -18,7 +18,7 @@ bytesFrom s base = listTo slotSize (λ (i : ℕ). getD s (base + i) 0)
 unfoldable pub slotOf : List ℕ → ℕ → List ℕ
 slotOf s n = if_then_else (ltb n (length s / slotSize)) (bytesFrom s (slotSize * n)) (replicate slotSize 0)
 
--- "a..b are byte positions": the byte at a, and the two and four from a on
+-- 01's "a..b": the byte at a, and the two and four from a on
 abbrev pub byteAt : List ℕ → ℕ → ℕ
 byteAt t a = getD t a 0
 

@@ -8,7 +8,7 @@ use Rattle.store_records.specs.declared.records.Handling.{Handling}
 use Rattle.store_records.specs.declared.records.Standing.{Standing}
 use Rattle.store_records.specs.declared.records.Aspiration.{Aspiration}
 
--- "3 dust code, 1 .. 2 .. 3 ... 4..5 store number, 1 or more ... Handling and standing: 6 material, 1 to 9. 8..9 wind, 0 to 140 ...
+-- "3 dust code, 1 for 0152, 2 for 2908, 3 for 2909. 4..5 store number, 1 or more ... Handling and standing: 6 material, 1 to 9. 8..9 wind, 0 to 140 ...
 -- 10..11 moisture, 0 to 1,000 ... 12..13 grain, any ... 14 openness, 1 to 7. 20..23 amount, 0 to 1,000,000"
 abbrev pub bulkTests : Bulk → List Bool
 bulkTests b =

@@ -1,5 +1,5 @@
--- A division of two words, 16 bits at a time: what is left of the high word goes on with the next 16 bits of the low one, so each step keeps "quotient times divisor, and
--- what is left"; and the figure is one more where what is left is half or more. Assumes nothing.
+-- A division of two words, 16 bits at a time: what is left of the high word goes on with the next 16 bits of the low one, so each step keeps the quotient times the
+-- divisor and what is left; and the figure is one more where what is left is half or more. Assumes nothing.
 use mathlib.Core.Path.{_≡_, ap, sym, _∙_}
 use Prim.Native.Nat.{ℕ, _+_, _*_, _/_, _%_, _^_, _<_, _≤_}
 use native.Mathlib.Nat.{add-comm, div-add-mod', div-lt-iff-lt-mul, mod-eq-of-lt, mod-add-mod, add-mul-div-right, add-mul-mod-self-right}

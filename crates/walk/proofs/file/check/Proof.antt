@@ -1,4 +1,4 @@
--- The walk means what the verdict means, and only one verdict does (`Outcomes.only`).
+-- The walk means what the outcome means, and only one outcome does (`Outcomes.only`).
 use native.Mathlib.Omega.{arith}
 use mathlib.Core.Path.{sym, ap, _∙_}
 use Rattle.slot_file.specs.Questions.{Outcome, accepted, refused}
