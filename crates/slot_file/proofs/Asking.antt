@@ -5,9 +5,9 @@ use mathlib.Core.Path.{_≡_, refl}
 use mathlib.Core.Bool.{Bool, true, false}
 use mathlib.Core.List.{List, [], _∷_, _++_}
 use Rattle.sums.specs.Choice.{if_then_else}
-use Rattle.slot_file.specs.Questions.{Question, question, Outcome, refused}
+use Rattle.slot_file.specs.Questions.{Question, Outcome, refused}
 use Rattle.slot_file.specs.Walk.{first}
-use Rattle.slot_file.specs.Meaning.{AllYes, FirstNo, here, later}
+use Rattle.slot_file.specs.Meaning.{askedAt, AllYes, FirstNo, here, later}
 
 pub first-yes : (qs : List Question) (v : Outcome) → AllYes qs → first qs v ≡ v
 unfolding first if_then_else
@@ -28,12 +28,6 @@ first-both P (q ∷ qs) v h k = go (q .yes) refl (first-both P qs v)
     go : (t : Bool) → q .yes ≡ t → (((n k : ℕ) → FirstNo qs n k → P (refused n k)) → (AllYes qs → P v) → P (first qs v)) → P (if_then_else t (first qs v) (refused (q .number) (q .slot)))
     go true e ih = ih (λ n j f. h n j (later q qs e f)) (λ a. k (e, a))
     go false e ih = h (q .number) (q .slot) (here q qs e)
-
--- the question at a place, from 0; behind the last, one that is answered yes
-abbrev pub askedAt : List Question → ℕ → Question
-askedAt [] n = question true 0 0
-askedAt (q ∷ qs) zero = q
-askedAt (q ∷ qs) (suc n) = askedAt qs n
 
 pub yes-at : (qs : List Question) → AllYes qs → (n : ℕ) → askedAt qs n .yes ≡ true
 yes-at [] a n = refl

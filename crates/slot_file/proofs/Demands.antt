@@ -74,7 +74,7 @@ accepted-exactly s = record {
     same (accepted c) e = rw (accepted-answer s c e) (summed-zero (inventoryAt s c))
     same (refused n k) e = rw (refused-answer s n k e .0) (refl, refl)
 
-    lowest : (v : Outcome) → outcome s ≡ v → told v .number ≡ lastNumber → (c : Chains) × Groups s c 0 × Stores s c 0 × LowestUnreached s c (told v .slot)
+    lowest : (v : Outcome) → outcome s ≡ v → told v .number ≡ 12 → (c : Chains) × Groups s c 0 × Stores s c 0 × LowestUnreached s c (told v .slot)
     lowest (accepted c) e z = absurd (omega arith)
     lowest (refused n k) e z = refused-last s n k z (exactly-when s (refused n k) .0 e)
 

@@ -19,12 +19,12 @@ use Rattle.slots.specs.Bytes.{bytesFrom, slotOf, i16At, zeroFrom, numberOf}
 use Rattle.slots.specs.Layout.{temperaturesOf, headerOf, daysOf, distancesAt, groupOf, groupGood, groupRead, coefficientsOf, coefficientsGood, coefficientsRead, bulkOf, handlingOf, handlingGood, standingOf, standingGood, aspirationOf, aspirationGood, storeKind, byKind, storeOf, storeGood, readBy, readStore}
 use Rattle.slot_file.specs.Sources.{coefficientSlot, groupAt, storeAt, temperaturesAt, Chains, inventoryAt}
 use Rattle.slot_file.specs.Questions.{question, headAsks, member, linkAsks, coefficientHolder, coefficientAsks, rowsAsks, closingAsks, coefficientSlots, reachedBy, groupAsks, storeAsks, reachAsks, lastAsks}
+use Rattle.slot_file.specs.Meaning.{askedAt}
 use Rattle.slot_file.specs.Walk.{first, chain, storeWalk, groupWalk, outcome}
 use Rattle.slot_file.specs.Figures.{groupContributions, storeContributions, gathered, contributions, exactSum, annualFigure, peakFigure, summed, answered, answer}
 use Rattle.slot_file.specs.Listing.{listed, text, digits, padded, fixed, line, lines, listing, refusalLine, printed}
 use Rattle.slot_file.specs.Alike.{sameList, sameStore}
 use Rattle.slot_file.specs.Surveyed.{Right, records, refusals, LentOfB, answerOfB, TwoStores}
-use Rattle.slot_file.proofs.Asking.{askedAt}
 
 pub as-examples : Right records × Right refusals × LentOfB answerOfB × TwoStores
 unfolding records refusals answerOfB flatMap sameList sameStore if_then_else allTo listTo totalTo nearest upTo temperaturesInRange distancesInRange daysInRange groupInRange coefficientsInRange allZero below place tableMinutes minutesAt periodAt controlOf runAndIdle outGrams inGrams monthGrams annualTonnes peakGrams lowerOf lowestTo pollutantCode zeroWhereDue bulkInRange handlingInRange standingInRange aspirationInRange k6Of handlingPeak standingPeak bulkTonnes aspirationPeak aspirationTonnes bytesFrom slotOf i16At zeroFrom numberOf temperaturesOf headerOf daysOf distancesAt groupOf groupGood groupRead coefficientsOf coefficientsGood coefficientsRead bulkOf handlingOf handlingGood standingOf standingGood aspirationOf aspirationGood storeKind byKind storeOf storeGood readBy readStore coefficientSlot groupAt storeAt temperaturesAt inventoryAt headAsks member linkAsks coefficientHolder coefficientAsks rowsAsks closingAsks coefficientSlots reachedBy groupAsks storeAsks reachAsks lastAsks first chain storeWalk groupWalk outcome groupContributions storeContributions gathered contributions exactSum annualFigure peakFigure summed answered answer text digits padded fixed line lines listing listed refusalLine printed

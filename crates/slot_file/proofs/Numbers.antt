@@ -1,4 +1,4 @@
--- A refusal of a file has a number from 1 to the last: the numbers stand in the questions. Assumes nothing.
+-- A refusal of a file has a number from 1 to the last, and 12 by the last questions alone: the numbers stand in the questions. Assumes nothing.
 use Prim.Native.Nat.{ℕ, zero, suc, _+_, _-_, _≤_}
 use native.Mathlib.Omega.{arith}
 use mathlib.Core.Path.{_≡_}
@@ -83,8 +83,8 @@ cases P s n k way end (at-last c h v w f) = end c v w f
 pub refused-number : (s : List ℕ) (n k : ℕ) → Refuses s n k → (1 ≤ n) × (n ≤ lastNumber)
 refused-number s n k = cases (λ n k. (1 ≤ n) × (n ≤ lastNumber)) s n k (λ h. (h .0, omega arith)) (λ c v w f. first-numbered lastNumber _ n k (last-numbered s c) f)
 
--- only the last questions have the last number
-pub refused-last : (s : List ℕ) (n k : ℕ) → n ≡ lastNumber → Refuses s n k → (c : Chains) × Groups s c 0 × Stores s c 0 × LowestUnreached s c k
+-- only the last questions have the number 12
+pub refused-last : (s : List ℕ) (n k : ℕ) → n ≡ 12 → Refuses s n k → (c : Chains) × Groups s c 0 × Stores s c 0 × LowestUnreached s c k
 refused-last s n k e = cases (λ n k. (c : Chains) × Groups s c 0 × Stores s c 0 × LowestUnreached s c k) s n k (λ h. absurd (omega arith)) (λ c v w f. (c, v, w, lowest-unreached s c n k f))
 
 -- the answer of a refused file has its number, from 1 to the last, and its slot, and all else zero

@@ -42,7 +42,7 @@ pub record Checked (s : List ℕ) (v : Verdict) : Type 0 where
   pub no-slot : v .number ≡ 0 → v .slot ≡ 0
   pub same : (answer s .number ≡ v .number) × (answer s .slot ≡ v .slot)
   pub no-figures : (v .number ≡ 0 → ⊥) → answer s ≡ refusal (v .number) (v .slot)
-  pub lowest : v .number ≡ lastNumber → (c : Chains) × Groups s c 0 × Stores s c 0 × LowestUnreached s c (v .slot)
+  pub lowest : v .number ≡ 12 → (c : Chains) × Groups s c 0 × Stores s c 0 × LowestUnreached s c (v .slot)
 
 -- "We don't want a program that supplies a missing coefficient from a similar vehicle": a group's six coefficient slots are of the six pollutants in turn, then
 -- their chain ends, and the coefficients that it is summed with are those of these slots

@@ -1,12 +1,18 @@
 -- What an outcome means, in words that know no walk.
-use Prim.Native.Nat.{ℕ}
+use Prim.Native.Nat.{ℕ, zero, suc}
 use mathlib.Core.Path.{_≡_}
 use mathlib.Core.Bool.{true, false}
 use mathlib.Core.List.{List, [], _∷_}
 use Rattle.slots.specs.Bytes.{slotOf}
 use Rattle.slots.specs.Layout.{nextOf}
 use Rattle.slot_file.specs.Sources.{headerAt, Chains}
-use Rattle.slot_file.specs.Questions.{Question, headAsks, groupsSoFar, storesSoFar, groupAsks, storeAsks, lastAsks, Outcome, accepted, refused}
+use Rattle.slot_file.specs.Questions.{Question, question, headAsks, groupsSoFar, storesSoFar, groupAsks, storeAsks, lastAsks, Outcome, accepted, refused}
+
+-- the question at a place, from 0; behind the last, one that is answered yes
+abbrev pub askedAt : List Question → ℕ → Question
+askedAt [] n = question true 0 0
+askedAt (q ∷ qs) zero = q
+askedAt (q ∷ qs) (suc n) = askedAt qs n
 
 -- every question is answered yes
 abbrev pub AllYes : List Question → Type 0

@@ -46,11 +46,14 @@ abbrev coefficients : ℕ → ℕ → ℕ → ℕ → ℕ → List ℕ
 coefficients next pollutant warmup run idle =
     slot (two next ++ (2 ∷ pollutant ∷ []) ++ four warmup ++ four warmup ++ four warmup ++ four run ++ four run ++ four run ++ four idle)
 
--- coefficients of the six pollutants in slots 2 to 7: CO, soot as given, the others zero, and the last one's next index
+-- coefficients of the six pollutants in six slots from k on: CO, soot as given, the others zero, and the last one's next index
+abbrev pollutantsFrom : ℕ → ℕ → ℕ → List ℕ
+pollutantsFrom k soot last =
+    coefficients (k + 1) 1 40000 100000 20000 ++ coefficients (k + 2) 2 0 0 0 ++ coefficients (k + 3) 3 0 0 0 ++ coefficients (k + 4) 4 0 0 soot
+    ++ coefficients (k + 5) 5 0 0 0 ++ coefficients last 6 0 0 0
+
 abbrev pollutants : ℕ → ℕ → List ℕ
-pollutants soot last =
-    coefficients 3 1 40000 100000 20000 ++ coefficients 4 2 0 0 0 ++ coefficients 5 3 0 0 0 ++ coefficients 6 4 0 0 soot ++ coefficients 7 5 0 0 0
-    ++ coefficients last 6 0 0 0
+pollutants = pollutantsFrom 2
 
 -- "Car, petrol, ... CO 4 / 10 / 2 g, others zero", at a temperature
 abbrev yard : ℕ → List ℕ → List ℕ
@@ -218,35 +221,29 @@ pub record Desks (s t : List ℕ) (c d : Chains) : Type 0 where
   pub theirs : outcome t ≡ accepted d
   pub alike : AlikeFiles (inventoryAt s c) (inventoryAt t d)
 
--- the coefficients of the six pollutants, from the slot k on
-abbrev sixFrom : ℕ → List ℕ
-sixFrom k =
-    coefficients (k + 1) 1 40000 100000 20000 ++ coefficients (k + 2) 2 0 0 0 ++ coefficients (k + 3) 3 0 0 0 ++ coefficients (k + 4) 4 0 0 0
-    ++ coefficients (k + 5) 5 0 0 0 ++ coefficients 0 6 0 0 0
-
 abbrev chains : List ℕ → List ℕ → Chains
 chains gs ss = record { groups = gs; stores = ss }
 
--- three groups, two of them alike, with one set of coefficients, before a fan and a heap; and the same in another order, each group with coefficients of its own
-abbrev pub ourDesk : List ℕ
-ourDesk =
-    head 12 1 10 (two 50) ++ group 2 0 4 ++ group 3 1 4 ++ group 0 0 4 ++ sixFrom 4 ++ store 11 5 2 (air 500 2000 9500 1000) ++ store 0 3 2 (bulk 5 20 50 10 1 4 0 1200)
-
-abbrev pub theirDesk : List ℕ
-theirDesk =
-    head 24 17 1 (two 50) ++ store 2 3 2 (bulk 5 20 50 10 1 4 0 1200) ++ store 0 5 2 (air 500 2000 9500 1000) ++ group 0 1 4 ++ sixFrom 4
-    ++ group 3 0 11 ++ sixFrom 11 ++ group 10 0 18 ++ sixFrom 18
-
-abbrev pub TwoDesks : Type 0
-TwoDesks = Desks ourDesk theirDesk (chains (3 ∷ 2 ∷ 1 ∷ []) (11 ∷ 10 ∷ [])) (chains (3 ∷ 10 ∷ 17 ∷ []) (2 ∷ 1 ∷ []))
-
--- and of store records alone: two alike fans and a heap, the heap between them or last
 abbrev fan : ℕ → List ℕ
 fan next = store next 5 2 (air 500 2000 9500 1000)
 
 abbrev heap : ℕ → List ℕ
 heap next = store next 3 2 (bulk 5 20 50 10 1 4 0 1200)
 
+abbrev six : ℕ → List ℕ
+six k = pollutantsFrom k 0 0
+
+-- three groups, two of them alike, with one set of coefficients, before a fan and a heap; and the same in another order, each group with coefficients of its own
+abbrev ourDesk : List ℕ
+ourDesk = head 12 1 10 (two 50) ++ group 2 0 4 ++ group 3 1 4 ++ group 0 0 4 ++ six 4 ++ fan 11 ++ heap 0
+
+abbrev theirDesk : List ℕ
+theirDesk = head 24 17 1 (two 50) ++ heap 2 ++ fan 0 ++ group 0 1 4 ++ six 4 ++ group 3 0 11 ++ six 11 ++ group 10 0 18 ++ six 18
+
+abbrev pub TwoDesks : Type 0
+TwoDesks = Desks ourDesk theirDesk (chains (3 ∷ 2 ∷ 1 ∷ []) (11 ∷ 10 ∷ [])) (chains (3 ∷ 10 ∷ 17 ∷ []) (2 ∷ 1 ∷ []))
+
+-- and of store records alone: two alike fans and a heap, the heap between them or last
 abbrev pub TwoStores : Type 0
 TwoStores =
     Desks (head 4 0 1 (two 50) ++ fan 2 ++ heap 3 ++ fan 0) (head 4 0 3 (two 50) ++ heap 0 ++ fan 1 ++ fan 2) (chains [] (3 ∷ 2 ∷ 1 ∷ [])) (chains [] (1 ∷ 2 ∷ 3 ∷ []))
