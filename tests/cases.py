@@ -3,6 +3,7 @@
 An edge's verdict is typed beside it, from the ranges of 01, "The slot file", and must be the one
 that papers.py works out.
 """
+import sys
 from dataclasses import dataclass, replace
 from typing import Optional
 
@@ -686,3 +687,11 @@ def all_cases(denominators):
         + random_cases()
         + largest_sources()
     )
+
+
+def write_side(script, stdin, stdout):
+    """Writes the side of a test program's cases that the command names; only that one is made."""
+    sides = {"stdin": stdin, "stdout": stdout}
+    if len(sys.argv) != 2 or sys.argv[1] not in sides:
+        sys.exit(f"usage: {script} stdin|stdout")
+    sys.stdout.buffer.write(sides[sys.argv[1]]())

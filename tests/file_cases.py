@@ -211,13 +211,8 @@ def main():
     every = all_files()
     assert_expected(every)
     assert_reached(every)
-    write = {
-        "stdin": lambda: b"".join(map(record, every)),
-        "stdout": lambda: b"".join(map(output, every)),
-    }
-    if len(sys.argv) != 2 or sys.argv[1] not in write:
-        sys.exit("usage: file_cases.py stdin|stdout")
-    sys.stdout.buffer.write(write[sys.argv[1]]())
+    sides = (lambda: b"".join(map(record, every)), lambda: b"".join(map(output, every)))
+    cases.write_side("file_cases.py", *sides)
 
 
 if __name__ == "__main__":

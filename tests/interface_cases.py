@@ -582,13 +582,8 @@ def main():
     assert_exchanges(every)
     assert_slices()
     assert_reached(every)
-    write = {
-        "stdin": lambda: b"".join(map(record, every)),
-        "stdout": lambda: b"".join(map(output, every)),
-    }
-    if len(sys.argv) != 2 or sys.argv[1] not in write:
-        sys.exit("usage: interface_cases.py stdin|stdout")
-    sys.stdout.buffer.write(write[sys.argv[1]]())
+    sides = (lambda: b"".join(map(record, every)), lambda: b"".join(map(output, every)))
+    cases.write_side("interface_cases.py", *sides)
 
 
 if __name__ == "__main__":

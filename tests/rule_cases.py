@@ -192,10 +192,7 @@ def main():
     every = cases.all_cases(DENOMINATORS)
     labels = [case.label for case in every]
     assert len(set(labels)) == len(labels), [x for x in labels if labels.count(x) > 1]
-    write = {"stdin": lambda: all_records(every), "stdout": lambda: all_printed(every)}
-    if len(sys.argv) != 2 or sys.argv[1] not in write:
-        sys.exit("usage: rule_cases.py stdin|stdout")
-    sys.stdout.buffer.write(write[sys.argv[1]]())
+    cases.write_side("rule_cases.py", lambda: all_records(every), lambda: all_printed(every))
 
 
 if __name__ == "__main__":
