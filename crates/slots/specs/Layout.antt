@@ -1,4 +1,4 @@
--- 01, "The slot file": the fields of slot 0, a group, coefficients and a store record, by their byte positions.
+-- 01, "The slot file": the fields of slot 0, a group, coefficients and a store record, by their byte positions; and 02, U1, those of a locomotive.
 use Prim.Native.Nat.{ℕ, _+_, _*_, _/_, _%_}
 use mathlib.Core.Path.{_≡_}
 use mathlib.Core.Bool.{Bool, true, _&&_, _||_}
@@ -16,10 +16,13 @@ use Rattle.store_records.specs.declared.records.Bulk.{Bulk}
 use Rattle.store_records.specs.declared.records.Handling as handling
 use Rattle.store_records.specs.declared.records.Standing as standing
 use Rattle.store_records.specs.declared.records.Aspiration as aspiration
+use Rattle.locomotives.specs.Fields.{modeCount, locomotiveInRange}
+use Rattle.locomotives.specs.declared.fields.Locomotive.{Locomotive}
 use Rattle.slots.specs.Bytes.{byteAt, u16At, u32At, i16At, zeroFrom, numberOf}
 use Rattle.slots.specs.declared.header.Header.{Header}
 use Rattle.slots.specs.declared.group.GroupRead.{GroupRead}
 use Rattle.slots.specs.declared.coefficients.CoefficientsRead.{CoefficientsRead}
+use Rattle.slots.specs.declared.locomotive.LocomotiveRead.{LocomotiveRead}
 use Rattle.slots.specs.declared.store.StoreRecord.{StoreRecord}
 use Rattle.slots.specs.declared.store.StoreRecord.the-variants.{Handling, Standing, Aspiration}
 use Rattle.slots.specs.declared.store.StoreRead.{StoreRead}
@@ -33,14 +36,15 @@ nextOf t = u16At t 0
 unfoldable pub temperaturesOf : List ℕ → List ℤ
 temperaturesOf t = listTo 12 (λ (m : ℕ). i16At t (8 + 2 * m))
 
--- "0..1 format number ... 2..3 count of all slots. 4..5 first group. 6..7 first store record"; "Are bytes 32..63 of slot 0 zero?"
+-- "0..1 format number ... 2..3 count of all slots. 4..5 first group. 6..7 first store record"; 02, U1: "Header bytes 32..33 become the first locomotive slot";
+-- "Are bytes 32..63 of slot 0 zero?", where "question 4 skips the two bytes"
 unfoldable pub headerOf : List ℕ → Header
 headerOf t = record {
   format = u16At t 0;
   count = u16At t 2;
-  heads = record { groups = u16At t 4; stores = u16At t 6 };
+  heads = record { groups = u16At t 4; stores = u16At t 6; locomotives = u16At t 32 };
   temperatures = temperaturesOf t;
-  rest = zeroFrom t 32 32;
+  rest = zeroFrom t 34 30;
 }
 
 -- **Group**: "22..33 days worked per month", and two distances
@@ -197,3 +201,24 @@ pub record StoreReads (t : List ℕ) (r : StoreRead) : Type 0 where
   pub number : readNumber r ≡ numberOf (storeKind t) (storeGood t)
   pub values : readValues r ≡ if_then_else (storeKind t && storeGood t) (storeFields (storeOf t)) []
   pub kind : storeKind t ≡ true → getD (storeFields (storeOf t)) 0 0 ≡ byteAt t 2
+
+-- 02, U1: "Kind 6 has 3 type ... 4..13 five 16-bit time shares ... idle to full power; 14..15 hours ... 16 is 1 for over two years old, else 0; 17 zone"
+unfoldable pub sharesOf : List ℕ → List ℕ
+sharesOf t = listTo modeCount (λ (k : ℕ). u16At t (4 + 2 * k))
+
+unfoldable pub locomotiveOf : List ℕ → Locomotive
+locomotiveOf t = record { model = byteAt t 3; shares = sharesOf t; hours = u16At t 14; old = byteAt t 16; zone = byteAt t 17 }
+
+-- question 9 of a locomotive
+abbrev pub locomotiveGoodTests : List ℕ → Locomotive → List Bool
+locomotiveGoodTests t l = locomotiveInRange l ∷ zeroFrom t 18 46 ∷ []
+
+unfoldable pub locomotiveGood : List ℕ → Locomotive → Bool
+locomotiveGood t l = allOf (locomotiveGoodTests t l)
+
+-- "Kind 6"
+abbrev pub locomotiveKind : List ℕ → Bool
+locomotiveKind t = eqb (byteAt t 2) 6
+
+unfoldable pub locomotiveRead : List ℕ → LocomotiveRead
+locomotiveRead t = record { number = numberOf (locomotiveKind t) (locomotiveGood t (locomotiveOf t)); locomotive = locomotiveOf t; next = nextOf t }

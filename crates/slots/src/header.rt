@@ -10,6 +10,7 @@ use super::slot;
 pub struct Heads {
     pub groups: u16,
     pub stores: u16,
+    pub locomotives: u16,
 }
 
 // The format number, the count of slots, the chains' heads, the temperatures, and whether the other bytes are zero.
@@ -53,8 +54,9 @@ pub fn read_header(file: &[u8]) -> Header
         heads: Heads {
             groups: numbers::u16_at(t, 4),
             stores: numbers::u16_at(t, 6),
+            locomotives: numbers::u16_at(t, 32),
         },
         temperatures: temperatures_of(t),
-        rest: numbers::zero_from(t, 32, 32),
+        rest: numbers::zero_from(t, 34, 30),
     }
 }

@@ -1,7 +1,8 @@
-// What the slots of a slot file hold: slot 0, groups, coefficients and store records, read from 64 bytes each.
+// What the slots of a slot file hold: slot 0, groups, coefficients, store records and locomotives, read from 64 bytes each.
 pub mod coefficients;
 pub mod group;
 pub mod header;
+pub mod locomotive;
 mod numbers;
 pub mod slot;
 pub mod store;
@@ -13,6 +14,8 @@ pub use group::read_group;
 pub use header::Header;
 pub use header::Heads;
 pub use header::read_header;
+pub use locomotive::LocomotiveRead;
+pub use locomotive::read_locomotive;
 pub use slot::SLOT_SIZE;
 pub use slot::next_of;
 pub use store::StoreRead;

@@ -8,18 +8,20 @@ use Rattle.slots.proofs.header.read_header.Tie as tie
 returns : tie.Need-returns
 unfolding headerOf
 returns c =
-    let first = c .before .before .before .before .before in
+    let heads = c .before .before in
+    let count = heads .before .before .before in
     rw (
       c .zero-from .ensures,
       c .before .temperatures-of .ensures,
-      c .before .before .u16-at4 .ensures,
-      c .before .before .before .u16-at3 .ensures,
-      c .before .before .before .before .u16-at2 .ensures,
-      first .u16-at .ensures,
-      first .before .slot-at .ensures .0,
+      heads .u16-at5 .ensures,
+      heads .before .u16-at4 .ensures,
+      heads .before .before .u16-at3 .ensures,
+      count .u16-at2 .ensures,
+      count .before .u16-at .ensures,
+      count .before .before .slot-at .ensures .0,
     )
 
 pub read-header-spec : {M : Type 1} → statement M
 read-header-spec =
     tie.close
-    (tie.spec (omega arith) (search needs) (omega arith) (omega arith) (omega arith) (omega arith) (omega arith) (omega arith) returns)
+    (tie.spec (omega arith) (search needs) (omega arith) (omega arith) (omega arith) (omega arith) (omega arith) (omega arith) (omega arith) returns)
