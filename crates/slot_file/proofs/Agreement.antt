@@ -1,5 +1,5 @@
 -- Two accepted files that are alike get the same answers. A figure goes by the number of exact units of its code alone (`Units`), which is a total over
--- the groups and one over the store records, and lists that are alike have the same totals and the same length (`Bag`, `Same`). And the counts are the lengths of the chains. Assumes
+-- the groups, one over the store records and one over the locomotives, and lists that are alike have the same totals and the same length (`Bag`, `Same`). And the counts are the lengths of the chains. Assumes
 -- nothing.
 use Prim.Native.Nat.{ℕ, _*_, _<_}
 use native.Mathlib.Omega.{arith}
@@ -12,15 +12,16 @@ use Rattle.sums.specs.Fraction.{Frac, _over_, whole, _⊙_, _≈_, partsOf}
 use Rattle.sums.specs.Figures.{nearest, tonneParts, gramParts}
 use Rattle.sums.proofs.Figure.{nearest-same}
 use Rattle.sums.specs.Answer.{Contribution}
+use Rattle.locomotives.specs.declared.fields.Locomotive.{Locomotive}
 use Rattle.slots.specs.declared.store.StoreRecord.{StoreRecord}
 use Rattle.slot_file.specs.Questions.{accepted}
 use Rattle.slot_file.specs.Walk.{outcome}
-use Rattle.slot_file.specs.Sources.{VehicleGroup, groupAt, storeAt, Chains, Inventory, inventoryAt}
-use Rattle.slot_file.specs.Figures.{groupContributions, storeContributions, contributions, exactSum, annualFigure, peakFigure, countsOf, summed, answered, answer}
+use Rattle.slot_file.specs.Sources.{VehicleGroup, groupAt, storeAt, locomotiveAt, Chains, Inventory, inventoryAt}
+use Rattle.slot_file.specs.Figures.{groupContributions, storeContributions, locomotiveContributions, contributions, exactSum, annualFigure, peakFigure, countsOf, summed, answered, answer}
 use Rattle.slot_file.specs.Codes.{codes}
-use Rattle.slot_file.specs.Alike.{total, sameGroup, sameStore, AlikeFiles}
+use Rattle.slot_file.specs.Alike.{total, sameGroup, sameStore, sameLocomotive, AlikeFiles}
 use Rattle.slot_file.proofs.Bag.{alike-total, alike-length}
-use Rattle.slot_file.proofs.Same.{group-sound, group-same, store-sound, store-same}
+use Rattle.slot_file.proofs.Same.{group-sound, group-same, store-sound, store-same, locomotive-sound, locomotive-same}
 use Rattle.slot_file.proofs.Units.{Units, total-contributions, exact-parts}
 use Rattle.slot_file.specs.Parts.{partsTo}
 
@@ -34,6 +35,7 @@ module _ (v w : Inventory) (e : AlikeFiles v w) where
         ap (λ (ts : List ℤ). total (λ (g : VehicleGroup). total f (groupContributions ts g)) (v .groups)) (e .temperatures),
         alike-total sameGroup group-sound group-same (λ (g : VehicleGroup). total f (groupContributions (w .temperatures) g)) (v .groups) (w .groups) (e .groups),
         alike-total sameStore store-sound store-same (λ (r : StoreRecord). total f (storeContributions r)) (v .stores) (w .stores) (e .stores),
+        alike-total sameLocomotive locomotive-sound locomotive-same (λ (l : Locomotive). total f (locomotiveContributions l)) (v .locomotives) (w .locomotives) (e .locomotives),
       )
 
   figure-alike : (f : Contribution → Frac) (k : ℕ) → 0 < k → ((x : Contribution) → Units x → f x ≈ (partsOf k (f x) over k)) → (u c : ℕ)
@@ -50,7 +52,14 @@ module _ (v w : Inventory) (e : AlikeFiles v w) where
       let p = figure-alike (λ (x : Contribution). x .rate) gramParts (lit< tt) (λ (x : Contribution) (h : Units x). h .peak) 10000000 in
       let n = alike-length sameGroup group-sound group-same (v .groups) (w .groups) (e .groups) in
       let m = alike-length sameStore store-sound store-same (v .stores) (w .stores) (e .stores) in
-      λ i. record { number = 0; slot = 0; annual = map (λ (c : ℕ). a c i) codes; peak = map (λ (c : ℕ). p c i) codes; counts = record { groups = n i; stores = m i } }
+      let l = alike-length sameLocomotive locomotive-sound locomotive-same (v .locomotives) (w .locomotives) (e .locomotives) in
+      λ i. record {
+        number = 0;
+        slot = 0;
+        annual = map (λ (c : ℕ). a c i) codes;
+        peak = map (λ (c : ℕ). p c i) codes;
+        counts = record { groups = n i; stores = m i; locomotives = l i };
+      }
 
 -- the answer to an accepted file
 pub accepted-answer : (s : List ℕ) (c : Chains) → outcome s ≡ accepted c → answer s ≡ summed (inventoryAt s c)
@@ -63,7 +72,8 @@ unfolding summed inventoryAt
 summed-counts s c =
     let g = length-map (reverse (c .groups)) (groupAt s) ∙ length-reverse (c .groups) in
     let k = length-map (reverse (c .stores)) (storeAt s) ∙ length-reverse (c .stores) in
-    λ i. record { groups = g i; stores = k i }
+    let l = length-map (reverse (c .locomotives)) (locomotiveAt s) ∙ length-reverse (c .locomotives) in
+    λ i. record { groups = g i; stores = k i; locomotives = l i }
 
 pub summed-zero : (v : Inventory) → (summed v .number ≡ 0) × (summed v .slot ≡ 0)
 unfolding summed

@@ -11,7 +11,7 @@ use lib.ListN.{getD, length}
 use borrow.Author.Tests.{eqb-true, leb-true}
 use Rattle.sums.specs.Choice.{if_then_else, allTo}
 use Rattle.sums.specs.Figures.{tonneParts, gramParts}
-use Rattle.sums.specs.Answer.{Contribution, noEmission}
+use Rattle.sums.specs.Answer.{Contribution, emitted, noEmission}
 use Rattle.sums.specs.declared.answer.Emission.{Emission}
 use Rattle.sums.proofs.Choices.{cases, both, allTo-at, listTo-at}
 use Rattle.sums.proofs.Rounding.{rounded}
@@ -21,24 +21,28 @@ use Rattle.stores.proofs.Exactly.{handling-emitted, handling-exactly, standing-
 use Rattle.vehicle_fields.specs.Fields.{pollutantCount, noCoefficients}
 use Rattle.vehicles.specs.Rules.{petrolCodes, dieselCodes, pollutantCode, emissionCount, emissionOf, emissionsOf, groupAnswer}
 use Rattle.vehicles.proofs.Bounds.{group-exactly}
+use Rattle.locomotives.specs.Fields.{locomotiveInRange, sharesAddUp}
+use Rattle.locomotives.specs.Rules.{locomotiveCodes, substanceCount, locomotiveContribution, locomotiveEmissions, locomotiveAnswer}
+use Rattle.locomotives.specs.declared.fields.Locomotive.{Locomotive}
+use Rattle.locomotives.proofs.Bounds.{locomotive-exactly}
 use Rattle.slots.specs.Bytes.{slotOf}
 use Rattle.slots.specs.Layout.{coefficientsOf, coefficientsRead}
 use Rattle.slots.specs.declared.store.StoreRecord.{StoreRecord}
 use Rattle.slots.specs.declared.store.StoreRecord.the-variants.{Handling, Standing, Aspiration}
-use Rattle.slot_file.specs.Sources.{coefficientSlot, groupAt, storeAt, temperaturesAt, Chains, inventoryAt}
-use Rattle.slot_file.specs.Questions.{lastNumber, headAsks, member, coefficientAsks, closingAsks, groupsSoFar, storesSoFar, groupAsks, storeAsks, Outcome, accepted, refused}
+use Rattle.slot_file.specs.Sources.{coefficientSlot, groupAt, storeAt, locomotiveAt, temperaturesAt, Chains, inventoryAt}
+use Rattle.slot_file.specs.Questions.{lastNumber, listingNumber, headAsks, member, coefficientAsks, closingAsks, groupsSoFar, storesSoFar, locomotivesSoFar, groupAsks, storeAsks, locomotiveAsks, Outcome, accepted, refused}
 use Rattle.slot_file.specs.Walk.{outcome, told}
-use Rattle.slot_file.specs.Meaning.{AllYes, Good, Groups, Stores, Accepts, Refuses}
+use Rattle.slot_file.specs.Meaning.{AllYes, Good, Groups, Stores, Locomotives, Accepts, Refuses}
 use Rattle.slot_file.specs.Codes.{codes, codeCount}
-use Rattle.slot_file.specs.Figures.{groupContributions, contributions, annualFigure, peakFigure, summed, answer, refusal}
+use Rattle.slot_file.specs.Figures.{groupContributions, locomotiveContributions, contributions, annualFigure, peakFigure, summed, answer, refusal}
 use Rattle.slot_file.specs.Alike.{AlikeFiles}
 use Rattle.slot_file.specs.Listing.{Listed, listing, listed}
 use Rattle.slot_file.specs.declared.Answer.{Answer}
-use Rattle.slot_file.specs.Demands.{LowestUnreached, Checked, OwnCoefficients, GroupGives, StoreGives, Each, Worked, FiguresRounded}
+use Rattle.slot_file.specs.Demands.{LowestUnreached, Checked, OwnCoefficients, GroupGives, StoreGives, LocomotiveGives, Each, Worked, FiguresRounded}
 use Rattle.slot_file.proofs.Asking.{yes-at}
 use Rattle.slot_file.proofs.Outcomes.{exactly-when}
 use Rattle.slot_file.proofs.Numbers.{refused-last, refused-answer}
-use Rattle.slot_file.proofs.Ranged.{row-asked, closing-asked, all-in-range, zero-where-due, group-answered, storeInRange, store-answered}
+use Rattle.slot_file.proofs.Ranged.{row-asked, closing-asked, all-in-range, zero-where-due, group-answered, storeInRange, store-answered, locomotive-in-range, shares-add-up}
 use Rattle.slot_file.proofs.Units.{Units, exact-parts}
 use Rattle.slot_file.proofs.Agreement.{accepted-answer, same-answer, summed-counts, summed-zero}
 
@@ -62,9 +66,9 @@ accepted-exactly s = record {
     no (accepted c) e z = absurd (z refl)
     no (refused n k) e z = (exactly-when s (refused n k) .0 e, refused-answer s n k e .0)
 
-    numbered : (v : Outcome) → outcome s ≡ v → told v .number ≤ lastNumber
-    numbered (accepted c) e = omega arith
-    numbered (refused n k) e = refused-answer s n k e .2
+    numbered : (v : Outcome) → outcome s ≡ v → (told v .number ≤ lastNumber) × (told v .number ≡ listingNumber → ⊥)
+    numbered (accepted c) e = (omega arith, λ z. absurd (omega arith))
+    numbered (refused n k) e = let r = refused-answer s n k e .1 in (r .1, r .2)
 
     no-slot : (v : Outcome) → outcome s ≡ v → told v .number ≡ 0 → told v .slot ≡ 0
     no-slot (accepted c) e z = refl
@@ -74,7 +78,7 @@ accepted-exactly s = record {
     same (accepted c) e = rw (accepted-answer s c e) (summed-zero (inventoryAt s c))
     same (refused n k) e = rw (refused-answer s n k e .0) (refl, refl)
 
-    lowest : (v : Outcome) → outcome s ≡ v → told v .number ≡ 12 → (c : Chains) × Groups s c 0 × Stores s c 0 × LowestUnreached s c (told v .slot)
+    lowest : (v : Outcome) → outcome s ≡ v → told v .number ≡ 12 → (c : Chains) × Groups s c 0 × Stores s c 0 × Locomotives s c 0 × LowestUnreached s c (told v .slot)
     lowest (accepted c) e z = absurd (omega arith)
     lowest (refused n k) e z = refused-last s n k z (exactly-when s (refused n k) .0 e)
 
@@ -125,6 +129,20 @@ store-gives (Aspiration a) e =
     let d = aspiration a e .dust in
     record { answered = simp e; code = ap (λ (x : Emission). x .code) (aspiration-emitted a e); listed = dust-listed (a .dust) (d .0) (d .1); exactly = aspiration-exactly a e }
 
+substances-listed : allTo substanceCount (λ (p : ℕ). member (getD locomotiveCodes p 0) codes) ≡ true
+unfolding allTo member if_then_else
+substances-listed = refl
+
+locomotive-gives : (l : Locomotive) → locomotiveInRange l ≡ true → sharesAddUp l ≡ true → LocomotiveGives l
+unfolding locomotiveEmissions locomotiveAnswer if_then_else
+locomotive-gives l r u p q =
+    record {
+      answered = simp (r, u);
+      listed = allTo-at substanceCount (λ (p : ℕ). member (getD locomotiveCodes p 0) codes) substances-listed p q;
+      code = simp (r, u) (ap (λ (x : Emission). x .code) (listTo-at noEmission substanceCount (λ (m : ℕ). emitted (locomotiveContribution l m)) p q));
+      exactly = locomotive-exactly l r p u q;
+    }
+
 module _ (s : List ℕ) (h : AllYes (headAsks s)) where
   group-gives : (c : Chains) (g : ℕ) → AllYes (groupAsks s c g) → GroupGives (temperaturesAt s) (groupAt s g)
   unfolding emissionsOf emissionOf groupAnswer if_then_else
@@ -159,6 +177,12 @@ module _ (s : List ℕ) (h : AllYes (headAsks s)) where
   each-store c [] w = tt
   each-store c (k ∷ b) w = (store-gives (storeAt s k) (store-answered s (storesSoFar c b) k (w .0) .1), each-store c b (w .1))
 
+  each-locomotive : (c : Chains) (ls : List ℕ) → Good (λ (b : List ℕ). locomotiveAsks s (locomotivesSoFar c b)) ls → Each (λ k. LocomotiveGives (locomotiveAt s k)) ls
+  each-locomotive c [] w = tt
+  each-locomotive c (k ∷ b) w =
+      let d = locomotivesSoFar c b in
+      (locomotive-gives (locomotiveAt s k) (locomotive-in-range s d k (w .0)) (shares-add-up s d k (w .0)), each-locomotive c b (w .1))
+
 map-at : (f : ℕ → ℕ) (l : List ℕ) (i : ℕ) → i < length l → getD (map f l) i 0 ≡ f (getD l i 0)
 map-at f [] i h = absurd (not-suc-le-zero h)
 map-at f (x ∷ l) zero h = refl
@@ -171,12 +195,13 @@ module _ (s : List ℕ) (c : Chains) (v : outcome s ≡ accepted c) where
 
   -- DEMAND 2
   pub each-source : Worked s c (inventoryAt s c)
-  unfolding inventoryAt contributions groupContributions
+  unfolding inventoryAt contributions groupContributions locomotiveContributions
   each-source =
       let a = exactly-when s (accepted c) .0 v in
       record {
         groups = each-onto (GroupGives (temperaturesAt s)) (groupAt s) (c .groups) [] (each-group s (a .head) (c .groups) (a .groups .good)) tt;
         stores = each-onto StoreGives (storeAt s) (c .stores) [] (each-store s (a .head) c (c .stores) (a .stores .good)) tt;
+        locomotives = each-onto LocomotiveGives (locomotiveAt s) (c .locomotives) [] (each-locomotive s (a .head) c (c .locomotives) (a .locomotives .good)) tt;
         counts = ap (λ r. r .counts) (accepted-answer s c v) ∙ summed-counts s c;
         summed = refl;
       }
@@ -195,6 +220,7 @@ module _ (s : List ℕ) (c : Chains) (v : outcome s ≡ accepted c) where
 
 -- DEMAND 3: "Every two such files alike in the twelve temperatures, month by month, in their vehicle groups, each with its own coefficients for the six pollutants,
 -- and in their store records, repeats included, get the same answers: every annual figure, every peak figure and both counts. This holds whatever order either file
--- has its slots and chains in, and however either shares its coefficient slots": the two accepted files are s and t, with any chains
+-- has its slots and chains in, and however either shares its coefficient slots": the two accepted files are s and t, with any chains, alike in their locomotives
+-- too, and the third count is the same as well
 pub same-answers : (s t : List ℕ) (c d : Chains) → outcome s ≡ accepted c → outcome t ≡ accepted d → AlikeFiles (inventoryAt s c) (inventoryAt t d) → answer s ≡ answer t
 same-answers s t c d p q a = accepted-answer s c p ∙ same-answer (inventoryAt s c) (inventoryAt t d) a ∙ sym (accepted-answer t d q)

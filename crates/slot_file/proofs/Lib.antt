@@ -1,4 +1,4 @@
--- The laws that belong to no one function. A reader of the letter wants Demands.
+-- The laws that belong to no one function. A reader of the letter wants Demands, one of older files Before.
 pub mod Asking
 pub mod SixRows
 pub mod Ranged
@@ -12,4 +12,5 @@ pub mod Same
 pub mod Units
 pub mod Agreement
 pub mod Demands
+pub mod Before
 pub mod Examples

@@ -3,7 +3,7 @@
 use Prim.Native.Nat.{ℕ, suc, _%_, _<_, _≤_}
 use mathlib.Core.Path.{_≡_, refl, subst, _∙_}
 use mathlib.Core.Logic.{_↔_}
-use mathlib.Core.List.{List, [], _∷_}
+use mathlib.Core.List.{List, [], _∷_, _++_}
 use mathlib.Core.Bool.{_&&_}
 use lib.ListN.{length, length-append}
 use lib.Dec.{leb, eqb}
@@ -14,9 +14,9 @@ use Rattle.sums.proofs.Choices.{left, right}
 use Rattle.slots.specs.Bytes.{slotSize, slotOf}
 use Rattle.slots.specs.Layout.{nextOf}
 use Rattle.slot_file.specs.Sources.{headerAt, Chains}
-use Rattle.slot_file.specs.Questions.{mostSlots, mostBytes, Question, slotCount, headAsks, member, linkAsks, sourcesOf, groupsSoFar, storesSoFar, groupAsks, storeAsks, lastAsks, Outcome, accepted, refused}
-use Rattle.slot_file.specs.Walk.{first, chain, afterAll, storeWalk, groupWalk, outcome}
-use Rattle.slot_file.specs.Meaning.{AllYes, Reached, Chain, Good, Groups, Accepts, at-head, at-group, at-store, at-last, Means}
+use Rattle.slot_file.specs.Questions.{mostSlots, mostBytes, Question, slotCount, headAsks, member, linkAsks, sourcesOf, groupsSoFar, storesSoFar, locomotivesSoFar, groupAsks, storeAsks, locomotiveAsks, lastAsks, Outcome, accepted, refused}
+use Rattle.slot_file.specs.Walk.{first, chain, afterAll, locomotiveWalk, storeWalk, groupWalk, outcome}
+use Rattle.slot_file.specs.Meaning.{AllYes, Reached, Chain, Good, Groups, Stores, Accepts, at-head, at-group, at-store, at-locomotive, at-last, Means}
 use Rattle.slot_file.proofs.Asking.{first-yes, first-no, first-both}
 use Rattle.slot_file.proofs.Marks.{Different, different-short}
 use Rattle.slot_file.proofs.Chains.{Walks, walks, one-chain}
@@ -48,13 +48,21 @@ stores-differ s a (k ∷ b) from link d c g =
     let z = c .1 in
     (omega arith, ltb-true k (slotCount s) (g .0 .0), not-true (member k (sourcesOf (storesSoFar a b))) (g .0 .1 .0), stores-differ s a b from k d (c .2) (g .1))
 
+pub locomotives-differ : (s : List ℕ) (a : Chains) (b : List ℕ) (from link : ℕ) → Different (slotCount s) (sourcesOf (storesSoFar a (a .stores))) → Chain s from b link
+    → Good (λ (b : List ℕ). locomotiveAsks s (locomotivesSoFar a b)) b → Different (slotCount s) (sourcesOf (locomotivesSoFar a b))
+unfolding locomotiveAsks linkAsks
+locomotives-differ s a [] from link d c g = d
+locomotives-differ s a (k ∷ b) from link d c g =
+    let z = c .1 in
+    (omega arith, ltb-true k (slotCount s) (g .0 .0), not-true (member k (sourcesOf (locomotivesSoFar a b))) (g .0 .1 .0), locomotives-differ s a b from k d (c .2) (g .1))
+
 -- one link of a chain, and its end
 module _ (asks : List ℕ → ℕ → List Question) (end : List ℕ → Outcome) (s : List ℕ) where
   turn : (n : ℕ) (b : List ℕ) (k : ℕ) → (k ≡ 0 → ⊥) → chain asks end (suc n) s b k ≡ first (asks b k) (chain asks end n s (k ∷ b) (nextOf (slotOf s k)))
   unfolding chain if_then_else
   turn n b k z = simp (ne-eqb k 0 z)
 
-  stop : (n : ℕ) (b : List ℕ) → chain asks end (suc n) s b 0 ≡ end b
+  pub stop : (n : ℕ) (b : List ℕ) → chain asks end (suc n) s b 0 ≡ end b
   unfolding chain if_then_else
   stop n b = refl
 
@@ -68,17 +76,33 @@ module _ (s : List ℕ) (h : AllYes (headAsks s)) where
       walked (λ b. groupAsks s (groupsSoFar b)) (λ b. storeWalk s (groupsSoFar b)) s (headerAt s .heads .groups)
       (λ b link w. different-short (slotCount s) b (sized s h) (groups-differ s b _ link (w .chain) (w .good)))
 
-  store-walk : (c : Chains) → Groups s c 0 → Walks (λ (b : List ℕ). storeAsks s (storesSoFar c b)) s (headerAt s .heads .stores) (storeWalk s c) (λ b. afterAll s (storesSoFar c b))
+  store-walk : (c : Chains) → Groups s c 0 → Walks (λ (b : List ℕ). storeAsks s (storesSoFar c b)) s (headerAt s .heads .stores) (storeWalk s c) (λ b. locomotiveWalk s (storesSoFar c b))
   unfolding storeWalk
   store-walk c v =
-      walked (λ b. storeAsks s (storesSoFar c b)) (λ b. afterAll s (storesSoFar c b)) s (headerAt s .heads .stores)
+      walked (λ b. storeAsks s (storesSoFar c b)) (λ b. locomotiveWalk s (storesSoFar c b)) s (headerAt s .heads .stores)
       (λ b link w.
       let d = different-short (slotCount s) (sourcesOf (storesSoFar c b)) (sized s h) (stores-differ s c b _ link (groups-differ s (c .groups) _ 0 (v .chain) (v .good)) (w .chain) (w .good)) in
       omega (arith, length-append b (c .groups)))
 
+  locomotive-walk : (c : Chains) → Groups s c 0 → Stores s c 0
+      → Walks (λ (b : List ℕ). locomotiveAsks s (locomotivesSoFar c b)) s (headerAt s .heads .locomotives) (locomotiveWalk s c) (λ b. afterAll s (locomotivesSoFar c b))
+  unfolding locomotiveWalk
+  locomotive-walk c v w =
+      walked (λ b. locomotiveAsks s (locomotivesSoFar c b)) (λ b. afterAll s (locomotivesSoFar c b)) s (headerAt s .heads .locomotives)
+      (λ b link u.
+      let g = groups-differ s (c .groups) _ 0 (v .chain) (v .good) in
+      let k = stores-differ s c (c .stores) _ 0 g (w .chain) (w .good) in
+      let d = different-short (slotCount s) (sourcesOf (locomotivesSoFar c b)) (sized s h) (locomotives-differ s c b _ link k (u .chain) (u .good)) in
+      omega (arith, length-append b (c .stores ++ c .groups)))
+
   headed : outcome s ≡ groupWalk s
   unfolding outcome
   headed = first-yes (headAsks s) (groupWalk s) h
+
+  -- where the groups and the store records have passed
+  passed : (c : Chains) → Groups s c 0 → Stores s c 0 → outcome s ≡ locomotiveWalk s (storesSoFar c (c .stores))
+  unfolding storeWalk
+  passed c v w = headed ∙ group-walk .at-end (c .groups) v ∙ store-walk c v .at-end (c .stores) w
 
 -- the outcome means what the questions say
 pub says : (s : List ℕ) → Means s (outcome s)
@@ -87,20 +111,21 @@ says s =
     first-both (Means s) (headAsks s) (groupWalk s) (λ n k f. at-head f) (λ h.
     group-walk s h .both (Means s) (λ b k w z n j f. at-group (groupsSoFar b) k h w z f) (λ gs v.
     store-walk s h (groupsSoFar gs) v .both (Means s) (λ b k w z n j f. at-store (storesSoFar (groupsSoFar gs) b) k h v w z f) (λ ss w.
-    let c = storesSoFar (groupsSoFar gs) ss in
-    first-both (Means s) (lastAsks s c) (accepted c) (λ n k f. at-last c h v w f) (λ a.
-    record { head = h; groups = v; stores = w; last = a }))))
+    locomotive-walk s h (storesSoFar (groupsSoFar gs) ss) v w .both (Means s) (λ b k u z n j f. at-locomotive (locomotivesSoFar (storesSoFar (groupsSoFar gs) ss) b) k h v w u z f) (λ ls u.
+    let c = locomotivesSoFar (storesSoFar (groupsSoFar gs) ss) ls in
+    first-both (Means s) (lastAsks s c) (accepted c) (λ n k f. at-last c h v w u f) (λ a.
+    record { head = h; groups = v; stores = w; locomotives = u; last = a })))))
 
 -- and only this outcome does
 pub only : (s : List ℕ) (v : Outcome) → Means s v → outcome s ≡ v
-unfolding outcome storeWalk
+unfolding outcome storeWalk locomotiveWalk
 only s (refused n k) (at-head f) = first-no (headAsks s) _ n k f
 only s (refused n k) (at-group c j h v z f) = headed s h ∙ group-walk s h .at-no (c .groups) j v z n k f
 only s (refused n k) (at-store c j h v w z f) = headed s h ∙ group-walk s h .at-end (c .groups) v ∙ store-walk s h c v .at-no (c .stores) j w z n k f
-only s (refused n k) (at-last c h v w f) =
-    headed s h ∙ group-walk s h .at-end (c .groups) v ∙ store-walk s h c v .at-end (c .stores) w ∙ first-no (lastAsks s c) (accepted c) n k f
+only s (refused n k) (at-locomotive c j h v w u z f) = passed s h c v w ∙ locomotive-walk s h c v w .at-no (c .locomotives) j u z n k f
+only s (refused n k) (at-last c h v w u f) = passed s h c v w ∙ locomotive-walk s h c v w .at-end (c .locomotives) u ∙ first-no (lastAsks s c) (accepted c) n k f
 only s (accepted c) a =
-    headed s (a .head) ∙ group-walk s (a .head) .at-end (c .groups) (a .groups) ∙ store-walk s (a .head) c (a .groups) .at-end (c .stores) (a .stores)
+    passed s (a .head) c (a .groups) (a .stores) ∙ locomotive-walk s (a .head) c (a .groups) (a .stores) .at-end (c .locomotives) (a .locomotives)
     ∙ first-yes (lastAsks s c) (accepted c) (a .last)
 
 -- ACCEPTED EXACTLY WHEN every question is answered yes, and refused exactly by the first that is answered no
@@ -112,4 +137,5 @@ pub one-way : (s : List ℕ) (c d : Chains) → Accepts s c → Accepts s d → 
 one-way s c d a b =
     let g = one-chain s (headerAt s .heads .groups) (c .groups) (d .groups) (a .groups .chain) (b .groups .chain) in
     let k = one-chain s (headerAt s .heads .stores) (c .stores) (d .stores) (a .stores .chain) (b .stores .chain) in
-    λ i. record { groups = g i; stores = k i }
+    let l = one-chain s (headerAt s .heads .locomotives) (c .locomotives) (d .locomotives) (a .locomotives .chain) (b .locomotives .chain) in
+    λ i. record { groups = g i; stores = k i; locomotives = l i }

@@ -12,13 +12,15 @@ use Rattle.store_records.specs.Fields.{handlingInRange, standingInRange, aspira
 use Rattle.vehicle_fields.specs.Fields.{pollutantCount, noCoefficients, groupInRange, coefficientsInRange, allInRange, inRange}
 use Rattle.vehicle_fields.specs.SootAndLead.{zeroWhereDue}
 use Rattle.vehicles.specs.Rules.{emissionsOf, groupAnswer}
+use Rattle.locomotives.specs.Fields.{locomotiveInRange, sharesAddUp}
+use Rattle.locomotives.specs.Rules.{locomotiveEmissions, locomotiveAnswer}
 use Rattle.slots.specs.Bytes.{byteAt, zeroFrom, slotOf}
-use Rattle.slots.specs.Layout.{groupOf, groupGood, groupRead, coefficientsOf, coefficientsGood, coefficientsRead, handlingOf, handlingGood, standingOf, standingGood, aspirationOf, aspirationGood, byKind, storeOf, storeGood, readBy, readStore}
+use Rattle.slots.specs.Layout.{groupOf, groupGood, groupRead, coefficientsOf, coefficientsGood, coefficientsRead, handlingOf, handlingGood, standingOf, standingGood, aspirationOf, aspirationGood, byKind, storeOf, storeGood, readBy, readStore, locomotiveOf, locomotiveGoodTests, locomotiveGood, locomotiveRead}
 use Rattle.slots.specs.declared.store.StoreRecord.{StoreRecord}
 use Rattle.slots.specs.declared.store.StoreRecord.the-variants.{Handling, Standing, Aspiration}
 use Rattle.slots.specs.declared.store.StoreRead.the-variants.{Record}
-use Rattle.slot_file.specs.Sources.{coefficientSlot, groupAt, storeAt, temperaturesAt, Chains}
-use Rattle.slot_file.specs.Questions.{Question, headAsks, linkAsks, coefficientAsks, rowsAsks, closingAsks, groupLinkAsks, groupAsks, storeAsks}
+use Rattle.slot_file.specs.Sources.{coefficientSlot, groupAt, storeAt, locomotiveAt, temperaturesAt, Chains}
+use Rattle.slot_file.specs.Questions.{Question, headAsks, linkAsks, coefficientAsks, rowsAsks, closingAsks, groupLinkAsks, groupAsks, storeAsks, locomotiveAsks}
 use Rattle.slot_file.specs.Meaning.{AllYes}
 use Rattle.slot_file.proofs.Asking.{yes-at, all-left, all-right}
 use Rattle.slot_file.proofs.SixRows.{row-yes}
@@ -91,3 +93,18 @@ unfolding storeAsks linkAsks storeAt readStore readBy if_then_else
 store-answered s c k a =
     let good = yes-at (storeAsks s c k) a 3 in
     (simp (yes-at (storeAsks s c k) a 2, good), good-store (slotOf s k) good)
+
+-- a locomotive that nothing is refused of
+module _ (s : List ℕ) (c : Chains) (k : ℕ) (a : AllYes (locomotiveAsks s c k)) where
+  pub locomotive-in-range : locomotiveInRange (locomotiveAt s k) ≡ true
+  unfolding locomotiveAsks linkAsks locomotiveAt locomotiveRead locomotiveGood
+  locomotive-in-range = nth (locomotiveGoodTests (slotOf s k) (locomotiveOf (slotOf s k))) (yes-at (locomotiveAsks s c k) a 3) 0
+
+  pub shares-add-up : sharesAddUp (locomotiveAt s k) ≡ true
+  unfolding locomotiveAsks linkAsks
+  shares-add-up = yes-at (locomotiveAsks s c k) a 4
+
+  -- its rule answers what it gives
+  pub locomotive-answered : locomotiveAnswer (locomotiveAt s k) .emissions ≡ locomotiveEmissions (locomotiveAt s k)
+  unfolding locomotiveAnswer if_then_else
+  locomotive-answered = simp (locomotive-in-range, shares-add-up)

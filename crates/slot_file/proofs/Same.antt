@@ -5,7 +5,7 @@ use mathlib.Core.Path.{_≡_, refl, ap₂}
 use mathlib.Core.List.{List, [], _∷_}
 use mathlib.Core.Bool.{Bool, true, false}
 use lib.Dec.{eqb}
-use lib.ListN.{getD}
+use lib.ListN.{getD, drop}
 use borrow.Author.Tests.{eqb-true, eq-eqb}
 use Rattle.sums.proofs.Choices.{left, right, nth}
 use Rattle.vehicle_fields.specs.declared.units.PerMinute.{PerMinute}
@@ -13,11 +13,12 @@ use Rattle.vehicle_fields.specs.declared.units.PerKilometre.{PerKilometre}
 use Rattle.vehicle_fields.specs.declared.group.Group.{Group}
 use Rattle.vehicle_fields.specs.declared.group.Coefficients.{Coefficients}
 use Rattle.store_records.specs.declared.records.Bulk.{Bulk}
+use Rattle.locomotives.specs.declared.fields.Locomotive.{Locomotive}
 use Rattle.slots.specs.Layout.{storeFields}
 use Rattle.slots.specs.declared.store.StoreRecord.{StoreRecord}
 use Rattle.slots.specs.declared.store.StoreRecord.the-variants.{Handling, Standing, Aspiration}
 use Rattle.slot_file.specs.Sources.{VehicleGroup}
-use Rattle.slot_file.specs.Alike.{sameBool, sameList, sameMinute, sameKilometre, sameCoefficientTests, sameCoefficients, groupFields, sameGroupTests, sameGroup, sameStore}
+use Rattle.slot_file.specs.Alike.{sameBool, sameList, sameMinute, sameKilometre, sameCoefficientTests, sameCoefficients, groupFields, sameGroupTests, sameGroup, sameStore, locomotiveFields, sameLocomotive}
 
 bool-sound : (a b : Bool) → sameBool a b ≡ true → a ≡ b
 bool-sound true true e = refl
@@ -145,3 +146,14 @@ store-sound (Aspiration h) (Aspiration g) e =
 pub store-same : (x : StoreRecord) → sameStore x x ≡ true
 unfolding sameStore
 store-same x = list-same eqb number-same (storeFields x)
+
+-- a locomotive from its numbers, the shares last
+pub locomotive-sound : (x y : Locomotive) → sameLocomotive x y ≡ true → x ≡ y
+unfolding sameLocomotive
+locomotive-sound x y e =
+    let p = list-sound eqb eqb-true (locomotiveFields x) (locomotiveFields y) e in
+    λ i. record { model = getD (p i) 0 0; shares = drop 4 (p i); hours = getD (p i) 1 0; old = getD (p i) 2 0; zone = getD (p i) 3 0 }
+
+pub locomotive-same : (x : Locomotive) → sameLocomotive x x ≡ true
+unfolding sameLocomotive
+locomotive-same x = list-same eqb number-same (locomotiveFields x)

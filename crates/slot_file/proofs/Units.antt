@@ -1,5 +1,5 @@
--- What each source gives is a whole number of exact units, so the exact sum of a code is as many units as its terms have together, over the groups and over
--- the store records. Assumes nothing.
+-- What each source gives is a whole number of exact units, so the exact sum of a code is as many units as its terms have together, over the groups, over
+-- the store records and over the locomotives. Assumes nothing.
 use Prim.Native.Nat.{ℕ, zero, suc, _+_, _*_, _<_}
 use native.Mathlib.Omega.{arith}
 use mathlib.Core.Path.{_≡_, refl}
@@ -18,10 +18,13 @@ use Rattle.vehicles.specs.Rules.{emissionCount}
 use Rattle.vehicles.proofs.Paper.{counted}
 use Rattle.stores.proofs.Paper.{handling-counted, standing-counted, aspiration-counted}
 use Rattle.sums.specs.Answer.{Contribution}
+use Rattle.locomotives.specs.Rules.{substanceCount}
+use Rattle.locomotives.specs.declared.fields.Locomotive.{Locomotive}
+use Rattle.locomotives.proofs.Paper.{locomotive-counted}
 use Rattle.slots.specs.declared.store.StoreRecord.{StoreRecord}
 use Rattle.slots.specs.declared.store.StoreRecord.the-variants.{Handling, Standing, Aspiration}
 use Rattle.slot_file.specs.Sources.{VehicleGroup, Inventory}
-use Rattle.slot_file.specs.Figures.{groupContributions, storeContributions, gathered, contributions, exactSum}
+use Rattle.slot_file.specs.Figures.{groupContributions, storeContributions, locomotiveContributions, gathered, contributions, exactSum}
 use Rattle.slot_file.specs.Alike.{total}
 use Rattle.slot_file.specs.Parts.{partsTo}
 use Rattle.slot_file.proofs.Bag.{total-append}
@@ -59,6 +62,10 @@ store-units (Handling h) = (units _ (handling-counted h), tt)
 store-units (Standing s) = (units _ (standing-counted s), tt)
 store-units (Aspiration a) = (units _ (aspiration-counted a), tt)
 
+locomotive-units : (l : Locomotive) → Each Units (locomotiveContributions l)
+unfolding locomotiveContributions
+locomotive-units l = each-listTo Units substanceCount _ (λ (p : ℕ). units _ (locomotive-counted l p))
+
 total-gathered : {A : Type 0} (n : Contribution → ℕ) (f : A → List Contribution) (l : List A) → total n (gathered f l) ≡ total (λ (x : A). total n (f x)) l
 unfolding gathered
 total-gathered n f [] = refl
@@ -70,25 +77,36 @@ each-gathered f h [] = tt
 each-gathered f h (x ∷ l) = each-append Units (f x) (gathered f l) (h x) (each-gathered f h l)
 
 module _ (v : Inventory) where
-  abbrev given : List Contribution
-  given = gathered (groupContributions (v .temperatures)) (v .groups)
+  abbrev fromGroups : List Contribution
+  fromGroups = gathered (groupContributions (v .temperatures)) (v .groups)
+
+  abbrev fromStores : List Contribution
+  fromStores = gathered storeContributions (v .stores)
+
+  abbrev fromLocomotives : List Contribution
+  fromLocomotives = gathered locomotiveContributions (v .locomotives)
 
   all-units : Each Units (contributions v)
   unfolding contributions
   all-units =
-      each-append Units given (gathered storeContributions (v .stores)) (each-gathered (groupContributions (v .temperatures)) (group-units (v .temperatures)) (v .groups))
-      (each-gathered storeContributions store-units (v .stores))
+      each-append Units (fromGroups ++ fromStores) fromLocomotives
+      (each-append Units fromGroups fromStores (each-gathered (groupContributions (v .temperatures)) (group-units (v .temperatures)) (v .groups)) (each-gathered storeContributions store-units (v .stores)))
+      (each-gathered locomotiveContributions locomotive-units (v .locomotives))
 
-  -- a total over all contributions is one over the groups and one over the store records
+  -- a total over all contributions is one over the groups, one over the store records and one over the locomotives
   pub total-contributions : (f : Contribution → ℕ) →
-      total f (contributions v) ≡ total (λ (g : VehicleGroup). total f (groupContributions (v .temperatures) g)) (v .groups) + total (λ (r : StoreRecord). total f (storeContributions r)) (v .stores)
+      total f (contributions v)
+      ≡ total (λ (g : VehicleGroup). total f (groupContributions (v .temperatures) g)) (v .groups) + total (λ (r : StoreRecord). total f (storeContributions r)) (v .stores)
+      + total (λ (l : Locomotive). total f (locomotiveContributions l)) (v .locomotives)
   unfolding contributions
   total-contributions f =
       omega (
         arith,
-        total-append f given (gathered storeContributions (v .stores)),
+        total-append f (fromGroups ++ fromStores) fromLocomotives,
+        total-append f fromGroups fromStores,
         total-gathered f (groupContributions (v .temperatures)) (v .groups),
         total-gathered f storeContributions (v .stores),
+        total-gathered f locomotiveContributions (v .locomotives),
       )
 
 module _ (f : Contribution → Frac) (k : ℕ) (pos : 0 < k) (exact : (x : Contribution) → Units x → f x ≈ (partsOf k (f x) over k)) (c : ℕ) where

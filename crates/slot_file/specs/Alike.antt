@@ -10,6 +10,7 @@ use Rattle.vehicle_fields.specs.declared.units.PerMinute.{PerMinute}
 use Rattle.vehicle_fields.specs.declared.units.PerKilometre.{PerKilometre}
 use Rattle.vehicle_fields.specs.declared.group.Group.{Group}
 use Rattle.vehicle_fields.specs.declared.group.Coefficients.{Coefficients}
+use Rattle.locomotives.specs.declared.fields.Locomotive.{Locomotive}
 use Rattle.slots.specs.Layout.{storeFields}
 use Rattle.slots.specs.declared.store.StoreRecord.{StoreRecord}
 use Rattle.slot_file.specs.Sources.{VehicleGroup, Inventory}
@@ -59,6 +60,13 @@ sameGroup x y = allOf (sameGroupTests x y)
 unfoldable pub sameStore : StoreRecord → StoreRecord → Bool
 sameStore x y = sameList eqb (storeFields x) (storeFields y)
 
+-- of a locomotive, every field
+abbrev pub locomotiveFields : Locomotive → List ℕ
+locomotiveFields l = l .model ∷ l .hours ∷ l .old ∷ l .zone ∷ l .shares
+
+unfoldable pub sameLocomotive : Locomotive → Locomotive → Bool
+sameLocomotive x y = sameList eqb (locomotiveFields x) (locomotiveFields y)
+
 abbrev pub bit : Bool → ℕ
 bit true = 1
 bit false = 0
@@ -82,8 +90,9 @@ abbrev pub alike : {A : Type 0} → (A → A → Bool) → List A → List A →
 alike same l m = all (λ z. eqb (count same z l) (count same z m)) (l ++ m)
 
 -- the letter's third demand: "alike in the twelve temperatures, month by month, in their vehicle groups, each with its own coefficients for the six pollutants, and in
--- their store records, repeats included"
+-- their store records, repeats included"; and "accuracy and agreement cover the new chain"
 pub record AlikeFiles (v w : Inventory) : Type 0 where
   pub temperatures : v .temperatures ≡ w .temperatures
   pub groups : alike sameGroup (v .groups) (w .groups) ≡ true
   pub stores : alike sameStore (v .stores) (w .stores) ≡ true
+  pub locomotives : alike sameLocomotive (v .locomotives) (w .locomotives) ≡ true

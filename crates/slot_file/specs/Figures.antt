@@ -12,6 +12,8 @@ use Rattle.sums.specs.Answer.{Contribution}
 use Rattle.vehicle_fields.specs.Fields.{noCoefficients}
 use Rattle.vehicles.specs.Rules.{emissionCount, contributionOf}
 use Rattle.stores.specs.Rules.{handlingContribution, standingContribution, aspirationContribution}
+use Rattle.locomotives.specs.Rules.{substanceCount, locomotiveContribution}
+use Rattle.locomotives.specs.declared.fields.Locomotive.{Locomotive}
 use Rattle.slots.specs.declared.store.StoreRecord.{StoreRecord}
 use Rattle.slots.specs.declared.store.StoreRecord.the-variants.{Handling, Standing, Aspiration}
 use Rattle.slot_file.specs.declared.Counts.{Counts}
@@ -31,6 +33,10 @@ storeContributions (Handling h) = handlingContribution h ∷ []
 storeContributions (Standing s) = standingContribution s ∷ []
 storeContributions (Aspiration a) = aspirationContribution a ∷ []
 
+-- 02, U1: what a locomotive gives, to the code of each of its substances; "CO, NO2 and soot join the sums"
+unfoldable pub locomotiveContributions : Locomotive → List Contribution
+locomotiveContributions l = listTo substanceCount (locomotiveContribution l)
+
 -- what each of a list gives, one after the other
 unfoldable pub gathered : {A : Type 0} → (A → List Contribution) → List A → List Contribution
 gathered f [] = []
@@ -38,7 +44,8 @@ gathered f (x ∷ xs) = f x ++ gathered f xs
 
 -- "what the rules above give ... from each source, equal sources each with a term of their own"
 unfoldable pub contributions : Inventory → List Contribution
-contributions v = gathered (groupContributions (v .temperatures)) (v .groups) ++ gathered storeContributions (v .stores)
+contributions v =
+    gathered (groupContributions (v .temperatures)) (v .groups) ++ gathered storeContributions (v .stores) ++ gathered locomotiveContributions (v .locomotives)
 
 -- the exact sum of the code c
 unfoldable pub exactSum : (Contribution → Frac) → ℕ → List Contribution → Frac
@@ -54,21 +61,22 @@ peakFigure xs c = nearest (exactSum (λ (x : Contribution). x .rate) c xs ⊙ wh
 
 -- the lengths of the chains, which the counts of an accepted file are (`Demands.each-source`)
 abbrev pub countsOf : Chains → Counts
-countsOf c = record { groups = length (c .groups); stores = length (c .stores) }
+countsOf c = record { groups = length (c .groups); stores = length (c .stores); locomotives = length (c .locomotives) }
 
--- the answer: a number and a slot, 0 and 0 of an accepted file; the figures by code; and, by the letter, "how many vehicle groups and store records were summed"
+-- the answer: a number and a slot, 0 and 0 of an accepted file; the figures by code; and, by the letter, "how many vehicle groups and store records were summed",
+-- with "a third count, the length of the locomotive chain"
 unfoldable pub summed : Inventory → Answer
 summed v = record {
   number = 0;
   slot = 0;
   annual = map (annualFigure (contributions v)) codes;
   peak = map (peakFigure (contributions v)) codes;
-  counts = record { groups = length (v .groups); stores = length (v .stores) };
+  counts = record { groups = length (v .groups); stores = length (v .stores); locomotives = length (v .locomotives) };
 }
 
 -- "A refusal gives its number and a slot, with every figure and count zero"
 abbrev pub refusal : ℕ → ℕ → Answer
-refusal n k = record { number = n; slot = k; annual = map (λ (c : ℕ). 0) codes; peak = map (λ (c : ℕ). 0) codes; counts = record { groups = 0; stores = 0 } }
+refusal n k = record { number = n; slot = k; annual = map (λ (c : ℕ). 0) codes; peak = map (λ (c : ℕ). 0) codes; counts = record { groups = 0; stores = 0; locomotives = 0 } }
 
 unfoldable pub answered : List ℕ → Outcome → Answer
 answered s (accepted c) = summed (inventoryAt s c)

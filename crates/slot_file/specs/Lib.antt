@@ -1,5 +1,5 @@
 -- What a slot file answers, by definition. A reader of 01 wants, in this order: Sources, Questions, Walk, Codes, Figures, Alike, Listing, Surveyed; Meaning says what an outcome
--- means in words that know no walk, and Demands what the letter demands. Parts has what the code's marks and sums hold.
+-- means in words that know no walk, Demands what the letter demands, and Before what 01 alone says. Parts has what the code's marks and sums hold.
 pub mod Sources
 pub mod Questions
 pub mod Walk
@@ -10,4 +10,5 @@ pub mod Alike
 pub mod Listing
 pub mod Surveyed
 pub mod Demands
+pub mod Before
 pub mod Parts

@@ -8,6 +8,7 @@ use Prim.Native.String as string
 use Prim.Native.String.{String}
 use Rattle.sums.specs.Choice.{if_then_else}
 use Rattle.slot_file.specs.declared.Answer.{Answer}
+use Rattle.slot_file.specs.Questions.{listingNumber}
 use Rattle.slot_file.specs.Codes.{codes}
 use Rattle.slot_file.specs.Figures.{refusal}
 
@@ -41,9 +42,11 @@ unfoldable pub lines : List ℕ → List ℕ → List ℕ → List ℕ
 lines [] annual peak = []
 lines (c ∷ cs) annual peak = line c (getD annual 0 0) (getD peak 0 0) ++ lines cs (drop 1 annual) (drop 1 peak)
 
+-- "the sources line gains a third count"
 unfoldable pub listing : Answer → List ℕ
 listing a =
-    text "code t/year g/s\n" ++ lines codes (a .annual) (a .peak) ++ text "sources " ++ decimal (a .counts .groups) ++ text " " ++ decimal (a .counts .stores) ++ text "\n"
+    text "code t/year g/s\n" ++ lines codes (a .annual) (a .peak)
+    ++ text "sources " ++ decimal (a .counts .groups) ++ text " " ++ decimal (a .counts .stores) ++ text " " ++ decimal (a .counts .locomotives) ++ text "\n"
 
 -- "`refused`, number and slot, parted by spaces"
 unfoldable pub refusalLine : ℕ → ℕ → List ℕ
@@ -66,5 +69,5 @@ listed a buffer =
     if_then_else (eqb (a .number) 0)
     (if_then_else (leb (length (listing a)) (length buffer))
     (record { answer = a; written = length (listing a); buffer = listing a ++ drop (length (listing a)) buffer })
-    (record { answer = refusal 13 0; written = 0; buffer = buffer }))
+    (record { answer = refusal listingNumber 0; written = 0; buffer = buffer }))
     (record { answer = a; written = 0; buffer = buffer })

@@ -6,7 +6,7 @@ use mathlib.Core.List.{List, [], _∷_}
 use Rattle.slots.specs.Bytes.{slotOf}
 use Rattle.slots.specs.Layout.{nextOf}
 use Rattle.slot_file.specs.Sources.{headerAt, Chains}
-use Rattle.slot_file.specs.Questions.{Question, question, headAsks, groupsSoFar, storesSoFar, groupAsks, storeAsks, lastAsks, Outcome, accepted, refused}
+use Rattle.slot_file.specs.Questions.{Question, question, headAsks, groupsSoFar, storesSoFar, locomotivesSoFar, groupAsks, storeAsks, locomotiveAsks, lastAsks, Outcome, accepted, refused}
 
 -- the question at a place, from 0; behind the last, one that is answered yes
 abbrev pub askedAt : List Question → ℕ → Question
@@ -38,18 +38,22 @@ pub record Reached (asks : List ℕ → ℕ → List Question) (s : List ℕ) (f
   pub chain : Chain s from b link
   pub good : Good asks b
 
--- the groups of c, and after them its store records, up to a link
+-- the groups of c, after them its store records, and after both its locomotives, up to a link
 abbrev pub Groups : List ℕ → Chains → ℕ → Type 0
 Groups s c link = Reached (λ (b : List ℕ). groupAsks s (groupsSoFar b)) s (headerAt s .heads .groups) (c .groups) link
 
 abbrev pub Stores : List ℕ → Chains → ℕ → Type 0
 Stores s c link = Reached (λ (b : List ℕ). storeAsks s (storesSoFar c b)) s (headerAt s .heads .stores) (c .stores) link
 
+abbrev pub Locomotives : List ℕ → Chains → ℕ → Type 0
+Locomotives s c link = Reached (λ (b : List ℕ). locomotiveAsks s (locomotivesSoFar c b)) s (headerAt s .heads .locomotives) (c .locomotives) link
+
 -- an accepted file: each chain from the header's link to a zero, and every question answered yes
 pub record Accepts (s : List ℕ) (c : Chains) : Type 0 where
   pub head : AllYes (headAsks s)
   pub groups : Groups s c 0
   pub stores : Stores s c 0
+  pub locomotives : Locomotives s c 0
   pub last : AllYes (lastAsks s c)
 
 -- a refused file: what was reached before, and the first question that is answered no
@@ -57,7 +61,9 @@ pub data Refuses (s : List ℕ) (n k : ℕ) : Type 0 where
   at-head : FirstNo (headAsks s) n k → Refuses s n k
   at-group : (c : Chains) (j : ℕ) → AllYes (headAsks s) → Groups s c j → (j ≡ 0 → ⊥) → FirstNo (groupAsks s (groupsSoFar (c .groups)) j) n k → Refuses s n k
   at-store : (c : Chains) (j : ℕ) → AllYes (headAsks s) → Groups s c 0 → Stores s c j → (j ≡ 0 → ⊥) → FirstNo (storeAsks s (storesSoFar c (c .stores)) j) n k → Refuses s n k
-  at-last : (c : Chains) → AllYes (headAsks s) → Groups s c 0 → Stores s c 0 → FirstNo (lastAsks s c) n k → Refuses s n k
+  at-locomotive : (c : Chains) (j : ℕ) → AllYes (headAsks s) → Groups s c 0 → Stores s c 0 → Locomotives s c j → (j ≡ 0 → ⊥)
+      → FirstNo (locomotiveAsks s (locomotivesSoFar c (c .locomotives)) j) n k → Refuses s n k
+  at-last : (c : Chains) → AllYes (headAsks s) → Groups s c 0 → Stores s c 0 → Locomotives s c 0 → FirstNo (lastAsks s c) n k → Refuses s n k
 
 abbrev pub Means : List ℕ → Outcome → Type 0
 Means s (accepted c) = Accepts s c

@@ -1,4 +1,4 @@
--- 01, "Questions in order": each question is written once, as a value with its answer, its number and the slot of a refusal; and what a file is told.
+-- 01, "Questions in order", and 02, U1: each question is written once, as a value with its answer, its number and the slot of a refusal; and what a file is told.
 use Prim.Native.Nat.{ℕ, zero, suc, _+_, _*_, _-_, _/_, _%_}
 use mathlib.Core.Bool.{Bool, true, false, _&&_, not}
 use mathlib.Core.List.{List, [], _∷_, _++_}
@@ -7,10 +7,11 @@ use lib.ListN.{length}
 use Rattle.sums.specs.Choice.{if_then_else}
 use Rattle.vehicle_fields.specs.Fields.{pollutantCount, temperaturesInRange}
 use Rattle.vehicle_fields.specs.SootAndLead.{zeroWhereDue}
+use Rattle.locomotives.specs.Fields.{sharesAddUp}
 use Rattle.slots.specs.Bytes.{slotSize, slotOf}
-use Rattle.slots.specs.Layout.{groupOf, groupGood, groupKind, coefficientsOf, coefficientsGood, coefficientsKind, coefficientsRead, storeKind, storeGood}
+use Rattle.slots.specs.Layout.{groupOf, groupGood, groupKind, coefficientsOf, coefficientsGood, coefficientsKind, coefficientsRead, storeKind, storeGood, locomotiveOf, locomotiveKind, locomotiveGood}
 use Rattle.slots.specs.declared.header.Header.{Header}
-use Rattle.slot_file.specs.Sources.{coefficientSlot, groupAt, headerAt, Chains}
+use Rattle.slot_file.specs.Sources.{coefficientSlot, groupAt, locomotiveAt, headerAt, Chains}
 
 pub record Question : Type 0 where
   pub yes : Bool
@@ -25,9 +26,13 @@ pub data Outcome : Type 0 where
   accepted : Chains → Outcome
   refused : ℕ → ℕ → Outcome
 
--- the last number that a refusal of a file can have; "Only a listing asks 13"
+-- the last number that a refusal of a file can have
 abbrev pub lastNumber : ℕ
-lastNumber = 12
+lastNumber = 14
+
+-- "Only a listing asks 13"
+abbrev pub listingNumber : ℕ
+listingNumber = 13
 
 -- slots of a file at most: "from 64 to 65,536" bytes
 abbrev pub mostSlots : ℕ
@@ -46,7 +51,7 @@ headAsksOf s h =
     question (leb slotSize (length s) && leb (length s) mostBytes && eqb (length s % slotSize) 0) 1 0  -- "Is the length a multiple of 64, from 64 to 65,536?"
     ∷ question (eqb (h .format) 1) 2 0  -- "Is the format number 1?"
     ∷ question (eqb (h .count) (slotCount s)) 3 0  -- "Does the slot count equal length / 64?"
-    ∷ question (h .rest) 4 0  -- "Are bytes 32..63 of slot 0 zero?"
+    ∷ question (h .rest) 4 0  -- "Are bytes 32..63 of slot 0 zero?", where "question 4 skips the two bytes" 32..33
     ∷ question (temperaturesInRange (h .temperatures)) 5 0  -- "Is each temperature from -600 to 600?"
     ∷ []
 
@@ -65,12 +70,12 @@ slotAsks kind good k =
     ∷ question good 9 k  -- "Is each field in range and every unnamed byte zero?"
     ∷ []
 
--- "At each nonzero link 6, 7, 8 and 9 are asked": of a link k, which the slot `holder` holds, where `before` are the slots reached before as groups and store
--- records; the refusal's slot is "the slot holding the link for 6", else "the slot asked about"
+-- "At each nonzero link 6, 7, 8 and 9 are asked": of a link k, which the slot `holder` holds, where `before` are the slots reached before as groups, store
+-- records and locomotives; the refusal's slot is "the slot holding the link for 6", else "the slot asked about"
 unfoldable pub linkAsks : List ℕ → ℕ → List ℕ → ℕ → Bool → Bool → List Question
 linkAsks s holder before k kind good =
     question (ltb k (slotCount s)) 6 holder  -- "Is the link below the slot count?"
-    ∷ question (not (member k before)) 7 k  -- "Is the slot new on this walk as a group or store record?"
+    ∷ question (not (member k before)) 7 k  -- "Is the slot new on this walk as a group or store record?"; "question 7 includes locomotives"
     ∷ slotAsks kind good k
 
 -- the slot that holds the link to a group's coefficient slot at place n
@@ -123,19 +128,23 @@ reachedBy s (g ∷ b) = coefficientSlots s g pollutantCount ++ g ∷ reachedBy s
 
 -- the sources on the chains, and every slot that the chains reach
 abbrev pub sourcesOf : Chains → List ℕ
-sourcesOf c = c .stores ++ c .groups
+sourcesOf c = c .locomotives ++ (c .stores ++ c .groups)
 
 abbrev pub reachedOf : List ℕ → Chains → List ℕ
-reachedOf s c = c .stores ++ reachedBy s (c .groups)
+reachedOf s c = c .locomotives ++ (c .stores ++ reachedBy s (c .groups))
 
--- "The walk takes the group chain, then the store chain": the chains while the groups b are passed, and then, after the groups of c, the store records b
+-- "The walk takes the group chain, then the store chain", and "the first locomotive slot, walked after the stores": the chains while the groups b are passed;
+-- then, after the groups of c, the store records b; then, after both of c, the locomotives b
 abbrev pub groupsSoFar : List ℕ → Chains
-groupsSoFar b = record { groups = b; stores = [] }
+groupsSoFar b = record { groups = b; stores = []; locomotives = [] }
 
 abbrev pub storesSoFar : Chains → List ℕ → Chains
-storesSoFar c b = record { groups = c .groups; stores = b }
+storesSoFar c b = record { groups = c .groups; stores = b; locomotives = [] }
 
--- of a link g to a group and of a link k to a store record, by the chains so far; and all that is asked of the group
+abbrev pub locomotivesSoFar : Chains → List ℕ → Chains
+locomotivesSoFar c b = record { groups = c .groups; stores = c .stores; locomotives = b }
+
+-- of a link g to a group, of a link k to a store record and of one to a locomotive, by the chains so far; and all that is asked of the group
 abbrev pub groupLinkAsks : List ℕ → Chains → ℕ → List Question
 groupLinkAsks s c g =
     let t = slotOf s g in
@@ -148,6 +157,14 @@ unfoldable pub storeAsks : List ℕ → Chains → ℕ → List Question
 storeAsks s c k =
     let t = slotOf s k in
     linkAsks s (lastOf (c .stores)) (sourcesOf c) k (storeKind t) (storeGood t)
+
+-- "14 when a locomotive's shares don't total 1,000, asked after its 9"
+unfoldable pub locomotiveAsks : List ℕ → Chains → ℕ → List Question
+locomotiveAsks s c k =
+    let t = slotOf s k in
+    linkAsks s (lastOf (c .locomotives)) (sourcesOf c) k (locomotiveKind t) (locomotiveGood t (locomotiveOf t))
+    ++ question (sharesAddUp (locomotiveAt s k)) 14 k
+    ∷ []
 
 -- "Is each slot from 1 up reached?": n slots from i up, so that the first that is not is "the lowest unreached"
 unfoldable pub reachAsks : ℕ → ℕ → List ℕ → List Question

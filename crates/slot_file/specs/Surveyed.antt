@@ -32,9 +32,12 @@ slot bytes = bytes ++ replicate (64 - length bytes) 0
 abbrev twelve : List ℕ → List ℕ
 twelve x = x ++ x ++ x ++ x ++ x ++ x ++ x ++ x ++ x ++ x ++ x ++ x
 
--- slot 0 of a file of n slots: the first group and store record, and one temperature all year, in two bytes
+-- slot 0 of a file of n slots: the first group, store record and locomotive, and one temperature all year, in two bytes; and without locomotives
+abbrev header : ℕ → ℕ → ℕ → ℕ → List ℕ → List ℕ
+header n group store locomotive t = slot (two 1 ++ two n ++ two group ++ two store ++ twelve t ++ two locomotive)
+
 abbrev head : ℕ → ℕ → ℕ → List ℕ → List ℕ
-head n group store t = slot (two 1 ++ two n ++ two group ++ two store ++ twelve t)
+head n group store t = header n group store 0 t
 
 -- B's group, with its next index, flags and first coefficient slot: car, petrol, N 10, N' 4, a 50, both neutraliser factors 100, idle 1 min, distances 100 and 300 both ways, 20 days a month
 abbrev group : ℕ → ℕ → ℕ → List ℕ
@@ -96,22 +99,24 @@ worked r = given (r .file) (warmups (r .file) (outcome (r .file))) (printed (ans
 abbrev pub Right : List Row → Type 0
 Right rows = map worked rows ≡ rows
 
--- a code's line, zero where it is not the one that has figures; that codes and counts are written so, B's listing below says letter by letter
-abbrev codeLine : ℕ → String → ℕ → List ℕ
-codeLine c figures d = padded 4 d ++ if_then_else (eqb c d) (text figures) (text " 0.000000 0.0000000") ++ text "\n"
+-- the figures of the code c, and zeros of the others
+abbrev only : ℕ → String → ℕ → List ℕ
+only c figures d = if_then_else (eqb c d) (text figures) (text " 0.000000 0.0000000")
 
--- the listing of a file that gives only to the code c, with its figures and how many groups and store records it has
-abbrev sheet : ℕ → String → ℕ → ℕ → List ℕ
-sheet c figures groups stores =
-    text "code t/year g/s\n" ++ flatMap (codeLine c figures) codes ++ text "sources " ++ decimal groups ++ text " " ++ decimal stores ++ text "\n"
+-- a listing by each code's figures and how many groups, store records and locomotives there are; that codes and counts are written so, B's listing below says
+-- letter by letter
+abbrev sheet : (ℕ → List ℕ) → ℕ → ℕ → ℕ → List ℕ
+sheet figures groups stores locomotives =
+    text "code t/year g/s\n" ++ flatMap (λ (c : ℕ). padded 4 c ++ figures c ++ text "\n") codes
+    ++ text "sources " ++ decimal groups ++ text " " ++ decimal stores ++ text " " ++ decimal locomotives ++ text "\n"
 
--- 01's listing of case B, letter by letter
+-- 01's listing of case B, letter by letter, with the third count
 abbrev pub listingOfB : String
-listingOfB = "code t/year g/s\n0152 0.000000 0.0000000\n0184 0.000000 0.0000000\n0301 0.000000 0.0000000\n0328 0.000000 0.0000000\n0330 0.000000 0.0000000\n0337 0.024000 0.0177778\n2704 0.000000 0.0000000\n2754 0.000000 0.0000000\n2908 0.000000 0.0000000\n2909 0.000000 0.0000000\nsources 1 0\n"
+listingOfB = "code t/year g/s\n0152 0.000000 0.0000000\n0184 0.000000 0.0000000\n0301 0.000000 0.0000000\n0328 0.000000 0.0000000\n0330 0.000000 0.0000000\n0337 0.024000 0.0177778\n2704 0.000000 0.0000000\n2754 0.000000 0.0000000\n2908 0.000000 0.0000000\n2909 0.000000 0.0000000\nsources 1 0 0\n"
 
 -- a record's file, and the listing of its dust 2908
 abbrev dust : List ℕ → String → Row
-dust bytes figures = given (one bytes) [] (sheet 2908 figures 0 1)
+dust bytes figures = given (one bytes) [] (sheet (only 2908 figures) 0 1 0)
 
 -- a temperature below zero
 abbrev below : ℕ → List ℕ
@@ -119,7 +124,7 @@ below n = two (65536 - n)
 
 -- B's yard with flags at a temperature, its minutes, and its line
 abbrev car : ℕ → List ℕ → Frac → String → Row
-car flags t m figures = given (yard flags t) (m ∷ []) (sheet 337 figures 1 0)
+car flags t m figures = given (yard flags t) (m ∷ []) (sheet (only 337 figures) 1 0 0)
 
 abbrev pub fileOfB : List ℕ
 fileOfB = yard 0 (two 100)
@@ -127,7 +132,7 @@ fileOfB = yard 0 (two 100)
 -- A to D
 unfoldable pub yards : List Row
 yards =
-    given (head 1 0 0 (two 0)) [] (sheet 0 "" 0 0)  -- A
+    given (head 1 0 0 (two 0)) [] (sheet (only 0 "") 0 0 0)  -- A
     ∷ given fileOfB (whole 3 ∷ []) (text listingOfB)  -- B
     ∷ car 1 (two 100) (whole 3) " 0.020160 0.0146667"  -- C, with control
     ∷ car 2 (two 100) (15 over 10) " 0.016800 0.0111111"  -- D, heated
@@ -142,7 +147,7 @@ records =
     ∷ given (one (store 0 3 2 (bulk 5 141 50 10 1 4 0 1200))) [] (text "refused 9 1\n")  -- "14.1 refused 9"
     ∷ dust (store 0 4 2 (bulk 1 30 5 1 2 0 0 100)) " 5.165597 0.2340000"  -- G, K6 missing
     ∷ dust (store 0 5 2 (air 500 2000 9500 1000)) " 0.180000 0.0500000"  -- H
-    ∷ given (head 3 0 1 (two 0) ++ store 2 5 2 (air 1 1 0 111) ++ store 0 5 2 (air 1 1 0 111)) [] (sheet 2908 " 0.000001 0.0000020" 0 2)  -- I
+    ∷ given (head 3 0 1 (two 0) ++ store 2 5 2 (air 1 1 0 111) ++ store 0 5 2 (air 1 1 0 111)) [] (sheet (only 2908 " 0.000001 0.0000020") 0 2 0)  -- I
     ∷ dust (store 0 5 2 (air 1 1 0 111)) " 0.000000 0.0000010"  -- "one alone 0.000000"
     ∷ dust (store 0 4 2 (bulk 6 20 110 501 7 0 100 5)) " 0.000001 0.0000001"  -- J, 5 m²
     ∷ dust (store 0 4 2 (bulk 6 20 110 501 7 0 100 4)) " 0.000001 0.0000000"  -- J, 4 m²
@@ -163,14 +168,46 @@ bands =
 abbrev pub surveyed : List Row
 surveyed = yards ++ records ++ bands
 
+-- ---- not of 01's examples: locomotives, by hand from 000. A slot: its next index, the type, the shares, hours, age mark and zone
+abbrev locomotive : ℕ → ℕ → List ℕ → ℕ → ℕ → ℕ → List ℕ
+locomotive next model shares hours old zone = slot (two next ++ (6 ∷ model ∷ []) ++ flatMap two shares ++ two hours ++ (old ∷ zone ∷ []))
+
+-- a file of locomotives alone, the first in slot 1
+abbrev engines : ℕ → List ℕ → List ℕ
+engines n slots = header n 0 0 1 (two 0) ++ slots
+
+-- the figures of CO, NO2 and soot
+abbrev exhaust : String → String → String → ℕ → List ℕ
+exhaust co no2 soot d = if_then_else (eqb d 301) (text no2) (if_then_else (eqb d 328) (text soot) (only 337 co d))
+
+-- table 22: TGM6 and TGM4; TGM3, TGK2 and TU4
+abbrev heavy : List ℕ
+heavy = 687 ∷ 201 ∷ 89 ∷ 15 ∷ 8 ∷ []
+
+abbrev light : List ℕ
+light = 701 ∷ 194 ∷ 85 ∷ 13 ∷ 7 ∷ []
+
+unfoldable pub locomotives : List Row
+locomotives =
+    -- TGM6, CO by table 22 0.94743 kg/h, times 3,000 × 1.2 × 0.7 / 1000; 4.13 / 3.6
+    given (engines 2 (locomotive 0 1 heavy 3000 1 2)) [] (sheet (exhaust " 2.387524 1.1472222" " 15.459293 4.2250000" " 0.124009 0.1055556") 0 0 1)
+    -- TU4, CO 0.19618 kg/h, times 1,000 × 0.8 × 0.7 / 1000; 0.78 / 3.6
+    ∷ given (engines 2 (locomotive 0 4 light 1000 0 3)) [] (sheet (exhaust " 0.109861 0.2166667" " 0.366178 0.5583333" " 0.006834 0.0194444") 0 0 1)
+    -- TGM4 that only idles, the whole of a leap year: 0.64 × 8,784 × 1.2 × 1.2 × 0.7 / 1000; its greatest with a share is 0.64
+    ∷ given (engines 2 (locomotive 0 2 (1000 ∷ 0 ∷ 0 ∷ 0 ∷ 0 ∷ []) 8784 1 1)) [] (sheet (exhaust " 5.666734 0.1777778" " 13.281408 0.4166667" " 0.088543 0.0027778") 0 0 1)
+    -- two of TGM3 with a fifth of the time in each mode, 6.03 / 5 × 1,000 × 0.7 / 1000 each; 2.66 / 3.6 each
+    ∷ given (engines 3 (locomotive 2 3 (replicate 5 200) 1000 0 2 ++ locomotive 0 3 (replicate 5 200) 1000 0 2)) []
+    (sheet (exhaust " 1.688400 1.4777778" " 8.607200 5.1166667" " 0.162400 0.1444444") 0 0 2)
+    ∷ []
+
 -- a listing of an answer in a lent buffer of n bytes, and B's: one byte too short, as long, and longer
 abbrev lentOf : Answer → ℕ → Listed
 lentOf a n = listed a (replicate n 7)
 
 pub record LentOfB (a : Answer) : Type 0 where
-  pub short : lentOf a 267 ≡ record { answer = refusal 13 0; written = 0; buffer = replicate 267 7 }
-  pub just : lentOf a 268 ≡ record { answer = a; written = 268; buffer = text listingOfB }
-  pub longer : lentOf a 270 ≡ record { answer = a; written = 268; buffer = text listingOfB ++ (7 ∷ 7 ∷ []) }
+  pub short : lentOf a 269 ≡ record { answer = refusal 13 0; written = 0; buffer = replicate 269 7 }
+  pub just : lentOf a 270 ≡ record { answer = a; written = 270; buffer = text listingOfB }
+  pub longer : lentOf a 272 ≡ record { answer = a; written = 270; buffer = text listingOfB ++ (7 ∷ 7 ∷ []) }
 
 -- B's answer: only the code 0337 has figures
 unfoldable pub answerOfB : Answer
@@ -179,10 +216,10 @@ answerOfB = record {
   slot = 0;
   annual = map (λ (c : ℕ). if_then_else (eqb c 337) 24000 0) codes;
   peak = map (λ (c : ℕ). if_then_else (eqb c 337) 177778 0) codes;
-  counts = record { groups = 1; stores = 0 };
+  counts = record { groups = 1; stores = 0; locomotives = 0 };
 }
 
--- ---- not of 01's examples: a file for each number from 1 to 10 and for 12, for some by several ways
+-- ---- not of 01's examples: a file for each number from 1 to 10, for 12 and for 14, for some by several ways
 abbrev no : List ℕ → String → Row
 no f t = given f [] (text t)
 
@@ -193,6 +230,7 @@ refusals =
     ∷ no (slot (two 2 ++ two 1)) "refused 2 0\n"
     ∷ no (head 3 0 0 (two 0)) "refused 3 0\n"
     ∷ no (two 1 ++ two 1 ++ replicate 59 0 ++ (1 ∷ [])) "refused 4 0\n"
+    ∷ no (two 1 ++ two 1 ++ replicate 30 0 ++ (1 ∷ []) ++ replicate 29 0) "refused 4 0\n"  -- just behind the third head
     ∷ no (head 1 0 0 (two 601)) "refused 5 0\n"
     ∷ no (head 1 1 0 (two 0)) "refused 6 0\n"  -- at the header, which holds the link
     ∷ no (head 2 0 1 (two 0) ++ store 2 5 2 (air 1 1 0 1)) "refused 6 1\n"
@@ -204,12 +242,25 @@ refusals =
     ∷ no (head 3 1 0 (two 0) ++ group 0 0 2 ++ coefficients 2 1 0 0 0) "refused 10 2\n"  -- a pollutant out of turn
     ∷ no (head 3 1 0 (two 0) ++ group 0 0 3 ++ slot []) "refused 6 1\n"
     ∷ no (head 4 0 1 (two 0) ++ store 0 5 2 (air 1 1 0 1) ++ slot [] ++ slot []) "refused 12 2\n"  -- the lowest
+    ∷ no (header 1 0 0 1 (two 0)) "refused 6 0\n"  -- on the locomotive chain: at the header
+    ∷ no (engines 2 (locomotive 2 1 heavy 1 0 1)) "refused 6 1\n"
+    ∷ no (engines 2 (locomotive 1 1 heavy 1 0 1)) "refused 7 1\n"
+    ∷ no (header 2 0 1 1 (two 0) ++ store 0 5 2 (air 1 1 0 1)) "refused 7 1\n"  -- a store record that the locomotive chain names
+    ∷ no (engines 2 (store 0 5 2 (air 1 1 0 1))) "refused 8 1\n"
+    ∷ no (head 2 0 1 (two 0) ++ locomotive 0 1 heavy 1 0 1) "refused 8 1\n"  -- a locomotive on the store chain
+    ∷ no (engines 2 (locomotive 0 1 heavy 8785 0 1)) "refused 9 1\n"
+    ∷ no (engines 2 (locomotive 0 1 light 1 2 1)) "refused 9 1\n"
+    ∷ no (engines 2 (locomotive 0 5 (replicate 5 1000) 1 0 1)) "refused 9 1\n"  -- 9 before 14
+    ∷ no (engines 2 (locomotive 9 1 (replicate 5 199) 1 0 1)) "refused 14 1\n"  -- 14 before the next link
+    ∷ no (engines 3 (locomotive 0 1 (replicate 5 201) 1 0 1 ++ slot [])) "refused 14 1\n"  -- and before 12
+    ∷ no (engines 3 (locomotive 0 1 heavy 1 0 1 ++ slot [])) "refused 12 2\n"
     ∷ []
 
 -- and those that take a whole yard
 unfoldable pub yardRefusals : List Row
 yardRefusals =
     no (head 8 1 1 (two 0) ++ group 0 0 2 ++ pollutants 0 0) "refused 7 1\n"  -- a group that the store chain names
+    ∷ no (header 8 1 0 1 (two 0) ++ group 0 0 2 ++ pollutants 0 0) "refused 7 1\n"  -- and one that the locomotive chain names
     ∷ no (head 8 1 0 (two 0) ++ group 2 0 2 ++ pollutants 0 0) "refused 8 2\n"  -- a coefficient slot that the group chain names is new
     ∷ no (head 8 1 0 (two 0) ++ group 0 0 2 ++ pollutants 0 2) "refused 10 7\n"  -- a seventh
     ∷ no (head 8 1 0 (two 0) ++ group 0 0 2 ++ pollutants 1 0) "refused 11 1\n"
@@ -221,8 +272,8 @@ pub record Desks (s t : List ℕ) (c d : Chains) : Type 0 where
   pub theirs : outcome t ≡ accepted d
   pub alike : AlikeFiles (inventoryAt s c) (inventoryAt t d)
 
-abbrev chains : List ℕ → List ℕ → Chains
-chains gs ss = record { groups = gs; stores = ss }
+abbrev chains : List ℕ → List ℕ → List ℕ → Chains
+chains gs ss ls = record { groups = gs; stores = ss; locomotives = ls }
 
 abbrev fan : ℕ → List ℕ
 fan next = store next 5 2 (air 500 2000 9500 1000)
@@ -233,17 +284,26 @@ heap next = store next 3 2 (bulk 5 20 50 10 1 4 0 1200)
 abbrev six : ℕ → List ℕ
 six k = pollutantsFrom k 0 0
 
--- three groups, two of them alike, with one set of coefficients, before a fan and a heap; and the same in another order, each group with coefficients of its own
+abbrev shunter : ℕ → List ℕ
+shunter next = locomotive next 1 heavy 3000 1 2
+
+-- three groups, two of them alike, with one set of coefficients, before a fan, a heap and a locomotive; and the same in another order, each group with coefficients
+-- of its own
 abbrev ourDesk : List ℕ
-ourDesk = head 12 1 10 (two 50) ++ group 2 0 4 ++ group 3 1 4 ++ group 0 0 4 ++ six 4 ++ fan 11 ++ heap 0
+ourDesk = header 13 1 10 12 (two 50) ++ group 2 0 4 ++ group 3 1 4 ++ group 0 0 4 ++ six 4 ++ fan 11 ++ heap 0 ++ shunter 0
 
 abbrev theirDesk : List ℕ
-theirDesk = head 24 17 1 (two 50) ++ heap 2 ++ fan 0 ++ group 0 1 4 ++ six 4 ++ group 3 0 11 ++ six 11 ++ group 10 0 18 ++ six 18
+theirDesk = header 25 18 2 1 (two 50) ++ shunter 0 ++ heap 3 ++ fan 0 ++ group 0 1 5 ++ six 5 ++ group 4 0 12 ++ six 12 ++ group 11 0 19 ++ six 19
 
 abbrev pub TwoDesks : Type 0
-TwoDesks = Desks ourDesk theirDesk (chains (3 ∷ 2 ∷ 1 ∷ []) (11 ∷ 10 ∷ [])) (chains (3 ∷ 10 ∷ 17 ∷ []) (2 ∷ 1 ∷ []))
+TwoDesks = Desks ourDesk theirDesk (chains (3 ∷ 2 ∷ 1 ∷ []) (11 ∷ 10 ∷ []) (12 ∷ [])) (chains (4 ∷ 11 ∷ 18 ∷ []) (3 ∷ 2 ∷ []) (1 ∷ []))
 
--- and of store records alone: two alike fans and a heap, the heap between them or last
+-- and without groups: two alike fans and a heap, the heap between them or last; two alike locomotives and a third, which comes last or first
 abbrev pub TwoStores : Type 0
 TwoStores =
-    Desks (head 4 0 1 (two 50) ++ fan 2 ++ heap 3 ++ fan 0) (head 4 0 3 (two 50) ++ heap 0 ++ fan 1 ++ fan 2) (chains [] (3 ∷ 2 ∷ 1 ∷ [])) (chains [] (1 ∷ 2 ∷ 3 ∷ []))
+    Desks (head 4 0 1 (two 50) ++ fan 2 ++ heap 3 ++ fan 0) (head 4 0 3 (two 50) ++ heap 0 ++ fan 1 ++ fan 2) (chains [] (3 ∷ 2 ∷ 1 ∷ []) []) (chains [] (1 ∷ 2 ∷ 3 ∷ []) [])
+
+abbrev pub TwoEngines : Type 0
+TwoEngines =
+    Desks (engines 4 (shunter 2 ++ shunter 3 ++ locomotive 0 4 light 1 0 3)) (engines 4 (locomotive 3 4 light 1 0 3 ++ shunter 0 ++ shunter 2)) (chains [] [] (3 ∷ 2 ∷ 1 ∷ []))
+    (chains [] [] (2 ∷ 3 ∷ 1 ∷ []))

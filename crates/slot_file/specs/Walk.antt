@@ -1,4 +1,4 @@
--- 01, "Questions in order": "The walk takes the group chain, then the store chain", and asks until a question is answered no.
+-- 01, "Questions in order": "The walk takes the group chain, then the store chain", by 02, U1, then the locomotive chain, and asks until a question is answered no.
 use Prim.Native.Nat.{ℕ, zero, suc}
 use mathlib.Core.List.{List, [], _∷_}
 use lib.Dec.{eqb}
@@ -8,7 +8,7 @@ use Rattle.sums.specs.declared.answer.Verdict.{Verdict}
 use Rattle.slots.specs.Bytes.{slotOf}
 use Rattle.slots.specs.Layout.{nextOf}
 use Rattle.slot_file.specs.Sources.{headerAt, Chains}
-use Rattle.slot_file.specs.Questions.{mostSlots, Question, Outcome, accepted, refused, headAsks, groupsSoFar, storesSoFar, groupAsks, storeAsks, lastAsks}
+use Rattle.slot_file.specs.Questions.{mostSlots, Question, Outcome, accepted, refused, headAsks, groupsSoFar, storesSoFar, locomotivesSoFar, groupAsks, storeAsks, locomotiveAsks, lastAsks}
 
 -- the refusal of the first question that is answered no, and else v
 unfoldable pub first : List Question → Outcome → Outcome
@@ -25,9 +25,14 @@ chain asks end (suc n) s b k = if_then_else (eqb k 0) (end b) (first (asks b k) 
 abbrev pub afterAll : List ℕ → Chains → Outcome
 afterAll s c = first (lastAsks s c) (accepted c)
 
+-- the locomotive chain, after the groups and the store records of c
+unfoldable pub locomotiveWalk : List ℕ → Chains → Outcome
+locomotiveWalk s c =
+    chain (λ (b : List ℕ). locomotiveAsks s (locomotivesSoFar c b)) (λ (b : List ℕ). afterAll s (locomotivesSoFar c b)) mostSlots s [] (headerAt s .heads .locomotives)
+
 -- the store chain, after the groups of c
 unfoldable pub storeWalk : List ℕ → Chains → Outcome
-storeWalk s c = chain (λ (b : List ℕ). storeAsks s (storesSoFar c b)) (λ (b : List ℕ). afterAll s (storesSoFar c b)) mostSlots s [] (headerAt s .heads .stores)
+storeWalk s c = chain (λ (b : List ℕ). storeAsks s (storesSoFar c b)) (λ (b : List ℕ). locomotiveWalk s (storesSoFar c b)) mostSlots s [] (headerAt s .heads .stores)
 
 unfoldable pub groupWalk : List ℕ → Outcome
 groupWalk s = chain (λ (b : List ℕ). groupAsks s (groupsSoFar b)) (λ (b : List ℕ). storeWalk s (groupsSoFar b)) mostSlots s [] (headerAt s .heads .groups)

@@ -11,10 +11,11 @@ pub use codes::place_of;
 // The slots of a file at most: question 1 keeps it to 65,536 bytes.
 pub const MOST_SLOTS: usize = 1_024;
 
-// How many groups and store records were summed.
+// How many groups, store records and locomotives were summed.
 pub struct Counts {
     pub groups: u16,
     pub stores: u16,
+    pub locomotives: u16,
 }
 
 // The number of the question that was answered no and a slot, 0 and 0 where none was; the annual figures in millionths of a tonne and the peak figures in
@@ -40,6 +41,7 @@ impl Answer {
             counts: Counts {
                 groups: 0,
                 stores: 0,
+                locomotives: 0,
             },
         }
     }

@@ -2,7 +2,7 @@
 -- definitions as a whole. What is lent a buffer goes by B's answer, which is computed once. Assumes nothing.
 use mathlib.Core.Path.{_≡_, refl, subst⁻¹}
 use mathlib.Core.List.{flatMap}
-use Rattle.sums.specs.Choice.{if_then_else, allTo, listTo}
+use Rattle.sums.specs.Choice.{if_then_else, allTo, sumTo, listTo}
 use Rattle.sums.specs.Fraction.{totalTo}
 use Rattle.sums.specs.Figures.{nearest}
 use Rattle.sums.specs.Table.{upTo}
@@ -13,20 +13,22 @@ use Rattle.warmups.specs.Warmup.{tableMinutes, minutesAt, periodAt}
 use Rattle.vehicles.specs.Rules.{controlOf, runAndIdle, outGrams, inGrams, monthGrams, annualTonnes, peakGrams, pollutantCode}
 use Rattle.store_records.specs.Fields.{bulkInRange, handlingInRange, standingInRange, aspirationInRange}
 use Rattle.stores.specs.Rules.{k6Of, handlingPeak, standingPeak, bulkTonnes, aspirationPeak, aspirationTonnes}
+use Rattle.locomotives.specs.Fields.{sharesInRange, locomotiveInRange, sharesAddUp}
+use Rattle.locomotives.specs.Rules.{ageFactor, modeTonnes, locomotiveTonnes, greatestRate, locomotivePeak}
 use Rattle.slots.specs.Bytes.{bytesFrom, slotOf, i16At, zeroFrom, numberOf}
-use Rattle.slots.specs.Layout.{temperaturesOf, headerOf, daysOf, distancesAt, groupOf, groupGood, groupRead, coefficientsOf, coefficientsGood, coefficientsRead, bulkOf, handlingOf, handlingGood, standingOf, standingGood, aspirationOf, aspirationGood, storeKind, byKind, storeOf, storeGood, readBy, readStore}
-use Rattle.slot_file.specs.Sources.{coefficientSlot, groupAt, storeAt, temperaturesAt, inventoryAt}
-use Rattle.slot_file.specs.Questions.{headAsks, member, linkAsks, coefficientHolder, coefficientAsks, rowsAsks, closingAsks, coefficientSlots, reachedBy, groupAsks, storeAsks, reachAsks, lastAsks}
-use Rattle.slot_file.specs.Walk.{first, chain, storeWalk, groupWalk, outcome}
-use Rattle.slot_file.specs.Figures.{groupContributions, storeContributions, gathered, contributions, exactSum, annualFigure, peakFigure, summed, answered, answer}
+use Rattle.slots.specs.Layout.{temperaturesOf, headerOf, daysOf, distancesAt, groupOf, groupGood, groupRead, coefficientsOf, coefficientsGood, coefficientsRead, bulkOf, handlingOf, handlingGood, standingOf, standingGood, aspirationOf, aspirationGood, storeKind, byKind, storeOf, storeGood, readBy, readStore, sharesOf, locomotiveOf, locomotiveGood, locomotiveRead}
+use Rattle.slot_file.specs.Sources.{coefficientSlot, groupAt, storeAt, locomotiveAt, temperaturesAt, inventoryAt}
+use Rattle.slot_file.specs.Questions.{headAsks, member, linkAsks, coefficientHolder, coefficientAsks, rowsAsks, closingAsks, coefficientSlots, reachedBy, groupAsks, storeAsks, locomotiveAsks, reachAsks, lastAsks}
+use Rattle.slot_file.specs.Walk.{first, chain, locomotiveWalk, storeWalk, groupWalk, outcome}
+use Rattle.slot_file.specs.Figures.{groupContributions, storeContributions, locomotiveContributions, gathered, contributions, exactSum, annualFigure, peakFigure, summed, answered, answer}
 use Rattle.slot_file.specs.Listing.{listed, text, digits, padded, fixed, line, lines, listing, refusalLine, printed}
-use Rattle.slot_file.specs.Alike.{sameList, sameCoefficients, sameGroup, sameStore}
+use Rattle.slot_file.specs.Alike.{sameList, sameCoefficients, sameGroup, sameStore, sameLocomotive}
 use Rattle.slot_file.specs.Surveyed.{Right, yards, records, bands, surveyed, yardRefusals, fileOfB, LentOfB, answerOfB, TwoDesks}
 use Rattle.slot_file.proofs.Examples.{as-examples}
 
 computed : Right surveyed × Right yardRefusals × (answer fileOfB ≡ answerOfB) × TwoDesks
-unfolding yards records bands yardRefusals answerOfB flatMap sameList sameCoefficients sameGroup sameStore if_then_else allTo listTo totalTo nearest upTo temperaturesInRange distancesInRange daysInRange groupInRange coefficientsInRange allZero below place tableMinutes minutesAt periodAt controlOf runAndIdle outGrams inGrams monthGrams annualTonnes peakGrams lowerOf lowestTo pollutantCode zeroWhereDue bulkInRange handlingInRange standingInRange aspirationInRange k6Of handlingPeak standingPeak bulkTonnes aspirationPeak aspirationTonnes bytesFrom slotOf i16At zeroFrom numberOf temperaturesOf headerOf daysOf distancesAt groupOf groupGood groupRead coefficientsOf coefficientsGood coefficientsRead bulkOf handlingOf handlingGood standingOf standingGood aspirationOf aspirationGood storeKind byKind storeOf storeGood readBy readStore coefficientSlot groupAt storeAt temperaturesAt inventoryAt headAsks member linkAsks coefficientHolder coefficientAsks rowsAsks closingAsks coefficientSlots reachedBy groupAsks storeAsks reachAsks lastAsks first chain storeWalk groupWalk outcome groupContributions storeContributions gathered contributions exactSum annualFigure peakFigure summed answered answer text digits padded fixed line lines listing listed refusalLine printed
-computed = (refl, refl, refl, record { ours = refl; theirs = refl; alike = record { temperatures = refl; groups = refl; stores = refl } })
+unfolding yards records bands yardRefusals answerOfB flatMap sameList sameCoefficients sameGroup sameStore sameLocomotive if_then_else allTo listTo totalTo nearest upTo temperaturesInRange distancesInRange daysInRange groupInRange coefficientsInRange allZero below place tableMinutes minutesAt periodAt controlOf runAndIdle outGrams inGrams monthGrams annualTonnes peakGrams lowerOf lowestTo pollutantCode zeroWhereDue bulkInRange handlingInRange standingInRange aspirationInRange k6Of handlingPeak standingPeak bulkTonnes aspirationPeak aspirationTonnes sharesInRange locomotiveInRange sumTo sharesAddUp ageFactor modeTonnes locomotiveTonnes greatestRate locomotivePeak bytesFrom slotOf i16At zeroFrom numberOf temperaturesOf headerOf daysOf distancesAt groupOf groupGood groupRead coefficientsOf coefficientsGood coefficientsRead bulkOf handlingOf handlingGood standingOf standingGood aspirationOf aspirationGood storeKind byKind storeOf storeGood readBy readStore sharesOf locomotiveOf locomotiveGood locomotiveRead coefficientSlot groupAt storeAt locomotiveAt temperaturesAt inventoryAt headAsks member linkAsks coefficientHolder coefficientAsks rowsAsks closingAsks coefficientSlots reachedBy groupAsks storeAsks locomotiveAsks reachAsks lastAsks first chain locomotiveWalk storeWalk groupWalk outcome groupContributions storeContributions locomotiveContributions gathered contributions exactSum annualFigure peakFigure summed answered answer text digits padded fixed line lines listing listed refusalLine printed
+computed = (refl, refl, refl, record { ours = refl; theirs = refl; alike = record { temperatures = refl; groups = refl; stores = refl; locomotives = refl } })
 
 pub as-surveyed : Right surveyed
 as-surveyed = computed .0
@@ -35,7 +37,7 @@ pub as-refused : Right yardRefusals
 as-refused = computed .1
 
 pub as-lent : LentOfB (answer fileOfB)
-as-lent = subst⁻¹ LentOfB (computed .2) (as-examples .2)
+as-lent = subst⁻¹ LentOfB (computed .2) (as-examples .3)
 
 pub two-desks : TwoDesks
 two-desks = computed .3
