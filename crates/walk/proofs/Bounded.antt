@@ -1,11 +1,11 @@
--- The sums of an accepted file stay below what a sum holds: no source gives a code more than a source's bound, a group with all its emissions, and there are fewer
--- sources than slots. Assumes nothing.
+-- The sums of an accepted file stay below what a sum holds: no source gives a code more than a source's bound, a group and a locomotive with all their emissions, and there are
+-- fewer sources than slots. Assumes nothing.
 use Prim.Native.Nat.{ℕ, _+_, _*_, _<_, _≤_}
 use native.Mathlib.Omega.{arith}
 use native.Mathlib.Nat.{mul-le-mul, le-refl}
 use mathlib.Core.Path.{_≡_}
 use mathlib.Core.Bool.{true}
-use mathlib.Core.List.{List, [], _∷_}
+use mathlib.Core.List.{List, [], _∷_, _++_}
 use lib.Dec.{eqb, lit<}
 use lib.ListN.{getD, length, length-append}
 use Rattle.sums.specs.Fraction.{Frac, partsOf}
@@ -17,17 +17,21 @@ use Rattle.stores.proofs.Bounds.{handling-bounded, standing-bounded, aspiration
 use Rattle.vehicle_fields.specs.Fields.{noCoefficients}
 use Rattle.vehicles.specs.Rules.{emissionCount, contributionOf}
 use Rattle.vehicles.proofs.Bounds.{group-bounded}
+use Rattle.locomotives.specs.Fields.{locomotiveInRange}
+use Rattle.locomotives.specs.Rules.{substanceCount, locomotiveContribution}
+use Rattle.locomotives.specs.declared.fields.Locomotive.{Locomotive}
+use Rattle.locomotives.proofs.Bounds.{locomotive-bounded}
 use Rattle.slots.specs.declared.store.StoreRecord.{StoreRecord}
 use Rattle.slots.specs.declared.store.StoreRecord.the-variants.{Handling, Standing, Aspiration}
-use Rattle.slot_file.specs.Sources.{groupAt, storeAt, temperaturesAt, Chains}
-use Rattle.slot_file.specs.Questions.{mostSlots, sourcesOf, groupsSoFar, storesSoFar, groupAsks, storeAsks}
-use Rattle.slot_file.specs.Meaning.{AllYes, Good, Groups, Stores}
-use Rattle.slot_file.specs.Figures.{groupContributions, storeContributions}
+use Rattle.slot_file.specs.Sources.{groupAt, storeAt, locomotiveAt, temperaturesAt, Chains}
+use Rattle.slot_file.specs.Questions.{mostSlots, sourcesOf, groupsSoFar, storesSoFar, locomotivesSoFar, groupAsks, storeAsks, locomotiveAsks}
+use Rattle.slot_file.specs.Meaning.{AllYes, Good, Groups, Stores, Locomotives}
+use Rattle.slot_file.specs.Figures.{groupContributions, storeContributions, locomotiveContributions}
 use Rattle.slot_file.specs.Alike.{total}
 use Rattle.slot_file.specs.Parts.{partsTo}
 use Rattle.totals.proofs.Sums.{total-listTo}
 use Rattle.walk.specs.Walked.{unitsOf}
-use Rattle.slot_file.proofs.Ranged.{group-in-range, row-in-range, storeInRange, store-answered}
+use Rattle.slot_file.proofs.Ranged.{group-in-range, row-in-range, storeInRange, store-answered, locomotive-in-range}
 
 -- of either kind of sum
 module _ (f : Contribution → Frac) (k most : ℕ) (bound : (n : ℕ) (x : Contribution) → Bounded n (x .tonnes) (x .rate) → n * partsOf k (f x) ≤ most) (c : ℕ) where
@@ -35,7 +39,7 @@ module _ (f : Contribution → Frac) (k most : ℕ) (bound : (n : ℕ) (x : Cont
   unfolding partsTo
   one-most n x b = both (λ (m : ℕ). n * m ≤ most) (eqb (x .code) c) (bound n x b) (omega arith)
 
-  -- a group, with all its emissions, and a store record
+  -- a group, with all its emissions, a store record, and a locomotive with all of its
   group-most : (s : List ℕ) (gs : List ℕ) (g : ℕ) → AllYes (groupAsks s (groupsSoFar gs) g) → total (partsTo f k c) (groupContributions (temperaturesAt s) (groupAt s g)) ≤ most
   unfolding groupContributions
   group-most s gs g h =
@@ -52,6 +56,13 @@ module _ (f : Contribution → Frac) (k most : ℕ) (bound : (n : ℕ) (x : Cont
   store-most (Standing r) e = omega (arith, one-most 1 (standingContribution r) (standing-bounded r e))
   store-most (Aspiration r) e = omega (arith, one-most 1 (aspirationContribution r) (aspiration-bounded r e))
 
+  locomotive-most : (l : Locomotive) → locomotiveInRange l ≡ true → total (partsTo f k c) (locomotiveContributions l) ≤ most
+  unfolding locomotiveContributions
+  locomotive-most l h =
+      rw (total-listTo (partsTo f k c) substanceCount (locomotiveContribution l))
+      (sumTo-share most (λ (p : ℕ). partsTo f k c (locomotiveContribution l p)) substanceCount (lit< tt)
+      (λ (p : ℕ) (q : p < substanceCount). one-most substanceCount (locomotiveContribution l p) (locomotive-bounded l h p)))
+
   -- each source of a chain once
   groups-most : (s gs : List ℕ) → Good (λ (b : List ℕ). groupAsks s (groupsSoFar b)) gs
       → total (λ (g : ℕ). total (partsTo f k c) (groupContributions (temperaturesAt s) (groupAt s g))) gs ≤ length gs * most
@@ -63,7 +74,20 @@ module _ (f : Contribution → Frac) (k most : ℕ) (bound : (n : ℕ) (x : Cont
   stores-most s a [] h = omega arith
   stores-most s a (j ∷ ss) h = omega (arith, stores-most s a ss (h .1), store-most (storeAt s j) (store-answered s (storesSoFar a ss) j (h .0) .1))
 
-  pub file-most : (s : List ℕ) (a : Chains) → Groups s a 0 → Stores s a 0 → length (sourcesOf a) < mostSlots → unitsOf (partsTo f k c) s a ≤ sourcesMost * most
-  file-most s a v w l =
-      let few : length (a .groups) + length (a .stores) ≤ sourcesMost = omega (arith, l, length-append (a .stores) (a .groups)) in
-      omega (arith, groups-most s (a .groups) (v .good), stores-most s a (a .stores) (w .good), mul-le-mul few (le-refl most))
+  locomotives-most : (s : List ℕ) (a : Chains) (ls : List ℕ) → Good (λ (b : List ℕ). locomotiveAsks s (locomotivesSoFar a b)) ls
+      → total (λ (j : ℕ). total (partsTo f k c) (locomotiveContributions (locomotiveAt s j))) ls ≤ length ls * most
+  locomotives-most s a [] h = omega arith
+  locomotives-most s a (j ∷ ls) h =
+      omega (arith, locomotives-most s a ls (h .1), locomotive-most (locomotiveAt s j) (locomotive-in-range s (locomotivesSoFar a ls) j (h .0)))
+
+  pub file-most : (s : List ℕ) (a : Chains) → Groups s a 0 → Stores s a 0 → Locomotives s a 0 → length (sourcesOf a) < mostSlots → unitsOf (partsTo f k c) s a ≤ sourcesMost * most
+  file-most s a v w u l =
+      let few : length (a .groups) + length (a .stores) + length (a .locomotives) ≤ sourcesMost =
+      omega (arith, l, length-append (a .locomotives) (a .stores ++ a .groups), length-append (a .stores) (a .groups)) in
+      omega (
+        arith,
+        groups-most s (a .groups) (v .good),
+        stores-most s a (a .stores) (w .good),
+        locomotives-most s a (a .locomotives) (u .good),
+        mul-le-mul few (le-refl most),
+      )

@@ -17,11 +17,12 @@ use Rattle.sums.proofs.Choices.{yes, listTo-same}
 use Rattle.sums.specs.Exactness.{annualMost, peakMost, sourcesMost, Bounded}
 use Rattle.sums.proofs.Exact.{figure-exact}
 use Rattle.sums.proofs.Figure.{nearest-same}
+use Rattle.locomotives.specs.declared.fields.Locomotive.{Locomotive}
 use Rattle.slots.specs.declared.store.StoreRecord.{StoreRecord}
-use Rattle.slot_file.specs.Sources.{VehicleGroup, groupAt, storeAt, temperaturesAt, Chains, inventoryAt}
+use Rattle.slot_file.specs.Sources.{VehicleGroup, groupAt, storeAt, locomotiveAt, temperaturesAt, Chains, inventoryAt}
 use Rattle.slot_file.specs.Meaning.{Accepts}
 use Rattle.slot_file.specs.Codes.{codes, codeCount}
-use Rattle.slot_file.specs.Figures.{groupContributions, storeContributions, contributions, exactSum, annualFigure, peakFigure}
+use Rattle.slot_file.specs.Figures.{groupContributions, storeContributions, locomotiveContributions, contributions, exactSum, annualFigure, peakFigure}
 use Rattle.slot_file.specs.Alike.{total}
 use Rattle.slot_file.proofs.Units.{Units, total-contributions, exact-parts}
 use Rattle.slot_file.specs.Parts.{partsTo}
@@ -52,6 +53,7 @@ module _ (s : List ℕ) (b : Chains) where
         total-contributions (inventoryAt s b) n,
         total-reversed (λ (g : VehicleGroup). total n (groupContributions (temperaturesAt s) g)) (groupAt s) (b .groups),
         total-reversed (λ (r : StoreRecord). total n (storeContributions r)) (storeAt s) (b .stores),
+        total-reversed (λ (l : Locomotive). total n (locomotiveContributions l)) (locomotiveAt s) (b .locomotives),
       )
 
   module _ (a : Accepts s b) where
@@ -64,7 +66,7 @@ module _ (s : List ℕ) (b : Chains) where
 
       units-most : units + d < 2 ^ 64 * d
       units-most =
-          let m = file-most f (u * d) most bound c s b (a .groups) (a .stores) (sources-short s (a .head) b (a .groups) (a .stores)) in
+          let m = file-most f (u * d) most bound c s b (a .groups) (a .stores) (a .locomotives) (sources-short s (a .head) b (a .groups) (a .stores) (a .locomotives)) in
           lt-of-le-of-lt (add-le-add m (le-refl d)) room
 
       figured : nearest (unitsIn (wordsOf units) over d) % 2 ^ 64 ≡ nearest (exactSum f c (contributions (inventoryAt s b)) ⊙ whole u)

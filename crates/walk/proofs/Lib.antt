@@ -3,5 +3,6 @@ pub mod Telling
 pub mod GroupAsks
 pub mod Passing
 pub mod StoreAsks
+pub mod LocomotiveAsks
 pub mod Bounded
 pub mod FileFigures

@@ -7,36 +7,39 @@ use mathlib.Core.List.{List, [], _∷_, _++_}
 use lib.ListN.{getD, length, set, length-append}
 use Rattle.sums.specs.Choice.{if_then_else, listTo}
 use Rattle.sums.specs.Answer.{Contribution, emitted}
-use Rattle.sums.specs.declared.answer.Verdict.{Verdict}
 use Rattle.sums.specs.declared.answer.Emission.{Emission}
 use Rattle.stores.specs.Rules.{handlingContribution, standingContribution, aspirationContribution}
 use Rattle.stores.proofs.Exactly.{handling-emitted, standing-emitted, aspiration-emitted}
 use Rattle.vehicle_fields.specs.Fields.{pollutantCount, noCoefficients}
 use Rattle.vehicles.specs.declared.rule.GroupAnswer.{GroupAnswer}
 use Rattle.vehicles.specs.Rules.{emissionCount, contributionOf, emissionOf, emissionsOf, groupAnswer}
+use Rattle.locomotives.specs.Rules.{substanceCount, locomotiveContribution, locomotiveEmissions, locomotiveAnswer}
+use Rattle.locomotives.specs.declared.fields.Locomotive.{Locomotive}
+use Rattle.locomotives.specs.declared.rule.LocomotiveAnswer.{LocomotiveAnswer}
 use Rattle.slots.specs.Bytes.{slotOf}
 use Rattle.slots.specs.Layout.{readStore}
 use Rattle.slots.specs.declared.store.StoreRecord.{StoreRecord}
 use Rattle.slots.specs.declared.store.StoreRecord.the-variants.{Handling, Standing, Aspiration}
 use Rattle.slots.specs.declared.store.StoreRead.{StoreRead}
-use Rattle.slot_file.specs.Sources.{coefficientSlot, groupAt, storeAt, temperaturesAt, Chains}
-use Rattle.slot_file.specs.Questions.{mostSlots, slotCount, headAsks, coefficientSlots, reachedBy, sourcesOf, groupsSoFar, storesSoFar, storeAsks}
-use Rattle.slot_file.specs.Meaning.{AllYes, Groups, Stores}
-use Rattle.slot_file.specs.Figures.{groupContributions, storeContributions}
+use Rattle.slot_file.specs.Sources.{coefficientSlot, groupAt, storeAt, locomotiveAt, temperaturesAt, Chains}
+use Rattle.slot_file.specs.Questions.{mostSlots, slotCount, headAsks, coefficientSlots, reachedBy, sourcesOf, groupsSoFar, storesSoFar, locomotivesSoFar, storeAsks}
+use Rattle.slot_file.specs.Meaning.{AllYes, Groups, Stores, Locomotives}
+use Rattle.slot_file.specs.Figures.{groupContributions, storeContributions, locomotiveContributions}
 use Rattle.slot_file.specs.Alike.{total}
-use Rattle.slot_file.proofs.Marks.{different-short}
-use Rattle.slot_file.proofs.Outcomes.{sized, groups-differ, stores-differ}
+use Rattle.slot_file.proofs.Marks.{Different, different-short}
+use Rattle.slot_file.proofs.Outcomes.{sized, groups-differ, stores-differ, locomotives-differ}
 use Rattle.slot_file.specs.Parts.{marksOf}
 use Rattle.slot_file.specs.declared.Counts.{Counts}
 use Rattle.totals.specs.Totals.{plusIn, plusToIn, column, Sums}
 use Rattle.totals.proofs.Adding.{plus-room, plus-to-room}
 use Rattle.totals.proofs.Sums.{same-sums, plus-emitted, plus-all}
 use Rattle.walk.specs.Rows.{marksTo}
-use Rattle.walk.specs.Steps.{GroupStepped, StoreStepped}
-use Rattle.walk.specs.Walked.{sumsOf, plusGroup, GroupsPassed, GroupsEnded, recordEmission, storeEmission, plusStore, StoresPassed, StoresEnded}
+use Rattle.walk.specs.Steps.{GroupStepped, StoreStepped, LocomotiveStepped}
+use Rattle.walk.specs.Walked.{sumsOf, plusGroup, GroupsPassed, GroupsEnded, recordEmission, storeEmission, plusStore, StoresPassed, StoresEnded, plusLocomotive, LocomotivesPassed, LocomotivesEnded}
 use Rattle.walk.specs.declared.group_chain.GroupStep.{GroupStep}
 use Rattle.walk.specs.declared.store_chain.StoreStep.{StoreStep}
-use Rattle.slot_file.proofs.Ranged.{group-answered, storeInRange, store-answered}
+use Rattle.walk.specs.declared.locomotive_chain.LocomotiveStep.{LocomotiveStep}
+use Rattle.slot_file.proofs.Ranged.{group-answered, storeInRange, store-answered, locomotive-answered}
 
 -- adding keeps the room
 group-room : (summing : Bool) (l : List ℕ) (a : GroupAnswer) → length (plusGroup summing l a) ≡ length l
@@ -48,6 +51,11 @@ store-room : (summing : Bool) (l : List ℕ) (r : StoreRead) → length (plusSto
 unfolding plusStore if_then_else
 store-room true l r = plus-room l (storeEmission r)
 store-room false l r = refl
+
+locomotive-room : (summing : Bool) (l : List ℕ) (a : LocomotiveAnswer) → length (plusLocomotive summing l a) ≡ length l
+unfolding plusLocomotive if_then_else
+locomotive-room true l a = plus-to-room l (a .emissions) substanceCount
+locomotive-room false l a = refl
 
 module _ (s : List ℕ) where
   group-summed : (gs : List ℕ) (g : ℕ) (l : List ℕ) → Sums (sumsOf s (groupsSoFar gs)) l
@@ -85,7 +93,7 @@ module _ (s : List ℕ) where
         → GroupsPassed s summing sources reached totals holder link counts → (link ≡ 0 → ⊥)
         → GroupStepped s holder link sources sources′ reached reached′ r → r .verdict .number ≡ 0
         → totals′ ≡ plusGroup summing totals (groupAnswer (r .group) (temperaturesAt s) (r .coefficients))
-        → GroupsPassed s summing sources′ reached′ totals′ link (r .next) (record { groups = counts .groups + 1; stores = counts .stores })
+        → GroupsPassed s summing sources′ reached′ totals′ link (r .next) (record { groups = counts .groups + 1; stores = counts .stores; locomotives = counts .locomotives })
     unfolding plusGroup if_then_else
     group-passed {summing} {totals = totals} {link = g} {counts} {r} p z t y d =
         let q = t .passed y in
@@ -97,7 +105,7 @@ module _ (s : List ℕ) where
           chain = record { chain = (q .next, z, p .chain .chain); good = (a, p .chain .good) };
           holder-is = refl;
           holds = record {
-            counts-are = λ i. record { groups = n i; stores = h′ .counts-are i .stores };
+            counts-are = λ i. record { groups = n i; stores = h′ .counts-are i .stores; locomotives = h′ .counts-are i .locomotives };
             sources-are = q .source-marked ∙ ap (λ (l : List Bool). set l g true) (h′ .sources-are);
             reached-are = q .slots-marked ∙ ap (λ (l : List Bool). marksTo s g (set l g true) pollutantCount) (h′ .reached-are) ∙ group-marked (p .gs) g;
             room = ap length d ∙ group-room summing totals (groupAnswer (r .group) (temperaturesAt s) (r .coefficients)) ∙ h′ .room;
@@ -135,28 +143,26 @@ module _ (s : List ℕ) (a : Chains) (ss : List ℕ) where
       (record-summed b l h (storeAt s k) (e .1)))
 
 module _ (s : List ℕ) (h : AllYes (headAsks s)) where
-  pub sources-short : (c : Chains) {link : ℕ} → Groups s c 0 → Stores s c link → length (sourcesOf (storesSoFar c (c .stores))) < mostSlots
-  sources-short c {link} v w =
-      different-short (slotCount s) (sourcesOf (storesSoFar c (c .stores))) (sized s h) (stores-differ s c (c .stores) _ link (groups-differ s (c .groups) _ 0 (v .chain) (v .good)) (w .chain) (w .good))
+  differ : (c : Chains) {link : ℕ} → Groups s c 0 → Stores s c link → Different (slotCount s) (sourcesOf (storesSoFar c (c .stores)))
+  differ c {link} v w = stores-differ s c (c .stores) _ link (groups-differ s (c .groups) _ 0 (v .chain) (v .good)) (w .chain) (w .good)
 
   stores-short : (c : Chains) {link : ℕ} → Groups s c 0 → Stores s c link → length (c .stores) < mostSlots
-  stores-short c v w = omega (arith, length-append (c .stores) (c .groups), sources-short c v w)
+  stores-short c v w = omega (arith, length-append (c .stores) (c .groups), different-short (slotCount s) (sourcesOf (storesSoFar c (c .stores))) (sized s h) (differ c v w))
 
   pub stores-few : {summing : Bool} {sources reached : List Bool} {totals : List ℕ} {holder link : ℕ} {counts : Counts}
       → StoresPassed s summing sources reached totals holder link counts → counts .stores < mostSlots
   stores-few p = omega (arith, stores-short (p .c) (p .group-chain) (p .chain), ap (λ (n : Counts). n .stores) (p .holds .counts-are))
 
-  pub stores-ended : {summing : Bool} {sources reached : List Bool} {totals : List ℕ} {holder link : ℕ} {counts : Counts} {v : Verdict}
-      → StoresPassed s summing sources reached totals holder link counts → link ≡ 0
-      → StoresEnded s summing reached totals (record { verdict = v; counts = counts })
+  pub stores-ended : {summing : Bool} {sources reached : List Bool} {totals : List ℕ} {holder link : ℕ} {counts : Counts}
+      → StoresPassed s summing sources reached totals holder link counts → link ≡ 0 → StoresEnded s summing sources reached totals counts
   stores-ended {summing} {sources} {reached} {totals} {holder} {link} {counts} p z =
-      record { sources = sources; holder = holder; passed = subst (λ (k : ℕ). StoresPassed s summing sources reached totals holder k counts) z p }
+      record { holder = holder; passed = subst (λ (k : ℕ). StoresPassed s summing sources reached totals holder k counts) z p }
 
   pub store-passed : {summing : Bool} {sources sources′ reached reached′ : List Bool} {totals totals′ : List ℕ} {holder link : ℕ} {counts : Counts} {r : StoreStep}
       → StoresPassed s summing sources reached totals holder link counts → (link ≡ 0 → ⊥)
       → StoreStepped s holder link sources sources′ reached reached′ r → r .verdict .number ≡ 0
       → totals′ ≡ plusStore summing totals (r .read)
-      → StoresPassed s summing sources′ reached′ totals′ link (r .next) (record { groups = counts .groups; stores = counts .stores + 1 })
+      → StoresPassed s summing sources′ reached′ totals′ link (r .next) (record { groups = counts .groups; stores = counts .stores + 1; locomotives = counts .locomotives })
   unfolding plusStore if_then_else
   store-passed {summing} {totals = totals} {link = k} {counts} {r} p z t y d =
       let q = t .passed y in
@@ -169,7 +175,7 @@ module _ (s : List ℕ) (h : AllYes (headAsks s)) where
         chain = record { chain = (q .next, z, p .chain .chain); good = (a, p .chain .good) };
         holder-is = refl;
         holds = record {
-          counts-are = λ i. record { groups = h′ .counts-are i .groups; stores = n i };
+          counts-are = λ i. record { groups = h′ .counts-are i .groups; stores = n i; locomotives = h′ .counts-are i .locomotives };
           sources-are = q .source-marked ∙ ap (λ (l : List Bool). set l k true) (h′ .sources-are);
           reached-are = q .slot-marked ∙ ap (λ (l : List Bool). set l k true) (h′ .reached-are);
           room = ap length d ∙ store-room summing totals (r .read) ∙ h′ .room;
@@ -177,5 +183,60 @@ module _ (s : List ℕ) (h : AllYes (headAsks s)) where
               subst (Sums (sumsOf s (storesSoFar (p .c) (k ∷ p .c .stores))))
               (sym (d ∙ ap (λ (b : Bool). plusStore b totals (r .read)) e ∙ (λ i. plusIn totals (storeEmission (t .read i)))))
               (store-summed s (p .c) (p .c .stores) k totals a (h′ .sums-are e));
+        };
+      }
+
+  -- one locomotive more
+  locomotive-summed : (a : Chains) (ls : List ℕ) (k : ℕ) (l : List ℕ) → Sums (sumsOf s (locomotivesSoFar a ls)) l
+      → Sums (sumsOf s (locomotivesSoFar a (k ∷ ls))) (plusToIn l (locomotiveEmissions (locomotiveAt s k)) substanceCount)
+  unfolding locomotiveEmissions locomotiveContributions
+  locomotive-summed a ls k l h′ =
+      let x = locomotiveContribution (locomotiveAt s k) in
+      let b = sumsOf s (locomotivesSoFar a ls) in
+      same-sums (λ (q j : ℕ). b q j + total (column q j) (listTo substanceCount x)) (sumsOf s (locomotivesSoFar a (k ∷ ls))) _ (λ q j. omega arith) (plus-all b l h′ x substanceCount)
+
+  pub sources-short : (c : Chains) {link : ℕ} → Groups s c 0 → Stores s c 0 → Locomotives s c link → length (sourcesOf c) < mostSlots
+  sources-short c {link} v w u = different-short (slotCount s) (sourcesOf c) (sized s h) (locomotives-differ s c (c .locomotives) _ link (differ c v w) (u .chain) (u .good))
+
+  locomotives-short : (c : Chains) {link : ℕ} → Groups s c 0 → Stores s c 0 → Locomotives s c link → length (c .locomotives) < mostSlots
+  locomotives-short c v w u = omega (arith, length-append (c .locomotives) (c .stores ++ c .groups), sources-short c v w u)
+
+  pub locomotives-few : {summing : Bool} {sources reached : List Bool} {totals : List ℕ} {holder link : ℕ} {counts : Counts}
+      → LocomotivesPassed s summing sources reached totals holder link counts → counts .locomotives < mostSlots
+  locomotives-few p = omega (arith, locomotives-short (p .c) (p .group-chain) (p .store-chain) (p .chain), ap (λ (n : Counts). n .locomotives) (p .holds .counts-are))
+
+  pub locomotives-ended : {summing : Bool} {sources reached : List Bool} {totals : List ℕ} {holder link : ℕ} {counts : Counts}
+      → LocomotivesPassed s summing sources reached totals holder link counts → link ≡ 0 → LocomotivesEnded s summing sources reached totals counts
+  locomotives-ended {summing} {sources} {reached} {totals} {holder} {link} {counts} p z =
+      record { holder = holder; passed = subst (λ (k : ℕ). LocomotivesPassed s summing sources reached totals holder k counts) z p }
+
+  pub locomotive-passed : {summing : Bool} {sources sources′ reached reached′ : List Bool} {totals totals′ : List ℕ} {holder link : ℕ} {counts : Counts} {r : LocomotiveStep}
+      → LocomotivesPassed s summing sources reached totals holder link counts → (link ≡ 0 → ⊥)
+      → LocomotiveStepped s holder link sources sources′ reached reached′ r → r .verdict .number ≡ 0
+      → totals′ ≡ plusLocomotive summing totals (locomotiveAnswer (r .locomotive))
+      → LocomotivesPassed s summing sources′ reached′ totals′ link (r .next) (record { groups = counts .groups; stores = counts .stores; locomotives = counts .locomotives + 1 })
+  unfolding plusLocomotive if_then_else
+  locomotive-passed {summing} {totals = totals} {link = k} {counts} {r} p z t y d =
+      let q = t .passed y in
+      let h′ = p .holds in
+      let n : counts .locomotives + 1 ≡ length (k ∷ p .c .locomotives) = omega (arith, ap (λ (m : Counts). m .locomotives) (h′ .counts-are)) in
+      let a = t .told (locomotivesSoFar (p .c) (p .c .locomotives)) (h′ .sources-are) (p .holder-is) .all y in
+      record {
+        c = locomotivesSoFar (p .c) (k ∷ p .c .locomotives);
+        group-chain = p .group-chain;
+        store-chain = p .store-chain;
+        chain = record { chain = (q .next, z, p .chain .chain); good = (a, p .chain .good) };
+        holder-is = refl;
+        holds = record {
+          counts-are = λ i. record { groups = h′ .counts-are i .groups; stores = h′ .counts-are i .stores; locomotives = n i };
+          sources-are = q .source-marked ∙ ap (λ (l : List Bool). set l k true) (h′ .sources-are);
+          reached-are = q .slot-marked ∙ ap (λ (l : List Bool). set l k true) (h′ .reached-are);
+          room = ap length d ∙ locomotive-room summing totals (locomotiveAnswer (r .locomotive)) ∙ h′ .room;
+          sums-are = λ e.
+              subst (Sums (sumsOf s (locomotivesSoFar (p .c) (k ∷ p .c .locomotives))))
+              (sym (d ∙ ap (λ (b : Bool). plusLocomotive b totals (locomotiveAnswer (r .locomotive))) e
+              ∙ ap (λ (l : Locomotive). plusToIn totals (locomotiveAnswer l .emissions) substanceCount) (t .locomotive)
+              ∙ ap (λ l. plusToIn totals l substanceCount) (locomotive-answered s (locomotivesSoFar (p .c) (p .c .locomotives)) k a)))
+              (locomotive-summed (p .c) (p .c .locomotives) k totals (h′ .sums-are e));
         };
       }

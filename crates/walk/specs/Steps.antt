@@ -7,13 +7,14 @@ use lib.ListN.{set}
 use Rattle.vehicle_fields.specs.Fields.{pollutantCount}
 use Rattle.slots.specs.Bytes.{slotOf}
 use Rattle.slots.specs.Layout.{nextOf, readStore}
-use Rattle.slot_file.specs.Sources.{groupAt, Chains}
-use Rattle.slot_file.specs.Questions.{lastOf, sourcesOf, groupAsks, storeAsks}
+use Rattle.slot_file.specs.Sources.{groupAt, locomotiveAt, Chains}
+use Rattle.slot_file.specs.Questions.{lastOf, sourcesOf, groupAsks, storeAsks, locomotiveAsks}
 use Rattle.slot_file.specs.Parts.{marksOf}
 use Rattle.walk.specs.Told.{Told}
 use Rattle.walk.specs.Rows.{marksTo}
 use Rattle.walk.specs.declared.group_chain.GroupStep.{GroupStep}
 use Rattle.walk.specs.declared.store_chain.StoreStep.{StoreStep}
+use Rattle.walk.specs.declared.locomotive_chain.LocomotiveStep.{LocomotiveStep}
 
 -- a group that nothing is refused of, and the marks after it
 pub record GroupTaken (s : List ℕ) (g : ℕ) (sources sources′ reached reached′ : List Bool) (r : GroupStep) : Type 0 where
@@ -27,12 +28,18 @@ pub record GroupStepped (s : List ℕ) (holder g : ℕ) (sources sources′ reac
   pub told : (c : Chains) → sources ≡ marksOf (sourcesOf c) → holder ≡ lastOf (c .groups) → Told (groupAsks s c g) (r .verdict)
   pub passed : r .verdict .number ≡ 0 → GroupTaken s g sources sources′ reached reached′ r
 
-pub record StoreTaken (s : List ℕ) (k : ℕ) (sources sources′ reached reached′ : List Bool) (r : StoreStep) : Type 0 where
-  pub next : r .next ≡ nextOf (slotOf s k)
+-- a store record or a locomotive that nothing is refused of, the next link and the marks after it
+pub record SlotTaken (s : List ℕ) (k : ℕ) (sources sources′ reached reached′ : List Bool) (link : ℕ) : Type 0 where
+  pub next : link ≡ nextOf (slotOf s k)
   pub source-marked : sources′ ≡ set sources k true
   pub slot-marked : reached′ ≡ set reached k true
 
 pub record StoreStepped (s : List ℕ) (holder k : ℕ) (sources sources′ reached reached′ : List Bool) (r : StoreStep) : Type 0 where
   pub read : r .read ≡ readStore (slotOf s k)
   pub told : (c : Chains) → sources ≡ marksOf (sourcesOf c) → holder ≡ lastOf (c .stores) → Told (storeAsks s c k) (r .verdict)
-  pub passed : r .verdict .number ≡ 0 → StoreTaken s k sources sources′ reached reached′ r
+  pub passed : r .verdict .number ≡ 0 → SlotTaken s k sources sources′ reached reached′ (r .next)
+
+pub record LocomotiveStepped (s : List ℕ) (holder k : ℕ) (sources sources′ reached reached′ : List Bool) (r : LocomotiveStep) : Type 0 where
+  pub locomotive : r .locomotive ≡ locomotiveAt s k
+  pub told : (c : Chains) → sources ≡ marksOf (sourcesOf c) → holder ≡ lastOf (c .locomotives) → Told (locomotiveAsks s c k) (r .verdict)
+  pub passed : r .verdict .number ≡ 0 → SlotTaken s k sources sources′ reached reached′ (r .next)

@@ -10,15 +10,17 @@ use Rattle.sums.specs.declared.answer.Emission.{Emission}
 use Rattle.stores.specs.Rules.{handlingAnswer, standingAnswer, aspirationAnswer}
 use Rattle.vehicles.specs.Rules.{emissionCount}
 use Rattle.vehicles.specs.declared.rule.GroupAnswer.{GroupAnswer}
+use Rattle.locomotives.specs.Rules.{substanceCount}
+use Rattle.locomotives.specs.declared.rule.LocomotiveAnswer.{LocomotiveAnswer}
 use Rattle.slots.specs.declared.header.Header.{Header}
 use Rattle.slots.specs.declared.store.StoreRecord.{StoreRecord}
 use Rattle.slots.specs.declared.store.StoreRecord.the-variants.{Handling, Standing, Aspiration}
 use Rattle.slots.specs.declared.store.StoreRead.{StoreRead}
 use Rattle.slots.specs.declared.store.StoreRead.the-variants.{Record, WrongKind, OutOfRange}
-use Rattle.slot_file.specs.Sources.{groupAt, storeAt, headerAt, temperaturesAt, Chains}
-use Rattle.slot_file.specs.Questions.{headAsks, lastOf, sourcesOf, reachedOf, groupsSoFar, storesSoFar}
-use Rattle.slot_file.specs.Meaning.{AllYes, Groups, Stores, Accepts, Refuses}
-use Rattle.slot_file.specs.Figures.{groupContributions, storeContributions, countsOf}
+use Rattle.slot_file.specs.Sources.{groupAt, storeAt, locomotiveAt, headerAt, temperaturesAt, Chains}
+use Rattle.slot_file.specs.Questions.{headAsks, lastOf, sourcesOf, reachedOf, groupsSoFar, storesSoFar, locomotivesSoFar}
+use Rattle.slot_file.specs.Meaning.{AllYes, Groups, Stores, Locomotives, Accepts, Refuses}
+use Rattle.slot_file.specs.Figures.{groupContributions, storeContributions, locomotiveContributions, countsOf}
 use Rattle.slot_file.specs.Alike.{total}
 use Rattle.slot_file.specs.Parts.{marksOf}
 use Rattle.totals.specs.Totals.{numberCount, noNumbers, plusIn, plusToIn, column, Sums}
@@ -28,7 +30,9 @@ use Rattle.walk.specs.declared.walked.Walked.{Walked}
 -- the units that the sources on the chains have together
 abbrev pub unitsOf : (Contribution → ℕ) → List ℕ → Chains → ℕ
 unitsOf f s c =
-    total (λ (g : ℕ). total f (groupContributions (temperaturesAt s) (groupAt s g))) (c .groups) + total (λ (k : ℕ). total f (storeContributions (storeAt s k))) (c .stores)
+    total (λ (g : ℕ). total f (groupContributions (temperaturesAt s) (groupAt s g))) (c .groups)
+    + total (λ (k : ℕ). total f (storeContributions (storeAt s k))) (c .stores)
+    + total (λ (k : ℕ). total f (locomotiveContributions (locomotiveAt s k))) (c .locomotives)
 
 -- the exact sums of the sources passed so far, of the code k in column q
 abbrev pub sumsOf : List ℕ → Chains → ℕ → ℕ → ℕ
@@ -41,6 +45,11 @@ pub record Holds (s : List ℕ) (summing : Bool) (sources reached : List Bool) (
   pub reached-are : reached ≡ marksOf (reachedOf s c)
   pub room : length totals ≡ numberCount
   pub sums-are : summing ≡ true → Sums (sumsOf s c) totals
+
+-- what a walk along a chain answers: a refusal, or that the chain ended with its counts
+pub record ChainWalked (s : List ℕ) (Ended : Counts → Type 0) (r : Walked) : Type 0 where
+  pub refuses : (r .verdict .number ≡ 0 → ⊥) → Refuses s (r .verdict .number) (r .verdict .slot)
+  pub ended : r .verdict .number ≡ 0 → Ended (r .counts)
 
 unfoldable pub plusGroup : Bool → List ℕ → GroupAnswer → List ℕ
 plusGroup summing l a = if_then_else summing (plusToIn l (a .emissions) emissionCount) l
@@ -65,9 +74,8 @@ pub record GroupsEnded (s : List ℕ) (summing : Bool) (sources reached : List B
   pub holder : ℕ
   pub passed : GroupsPassed s summing sources reached totals holder 0 counts
 
-pub record GroupsWalked (s : List ℕ) (summing : Bool) (sources reached : List Bool) (totals : List ℕ) (r : Walked) : Type 0 where
-  pub refuses : (r .verdict .number ≡ 0 → ⊥) → Refuses s (r .verdict .number) (r .verdict .slot)
-  pub ended : r .verdict .number ≡ 0 → GroupsEnded s summing sources reached totals (r .counts)
+abbrev pub GroupsWalked : List ℕ → Bool → List Bool → List Bool → List ℕ → Walked → Type 0
+GroupsWalked s summing sources reached totals r = ChainWalked s (GroupsEnded s summing sources reached totals) r
 
 -- what a store record's rule answers
 unfoldable pub recordEmission : StoreRecord → Emission
@@ -98,14 +106,38 @@ pub record StoresPassed (s : List ℕ) (summing : Bool) (sources reached : List 
   pub holds : Holds s summing sources reached totals counts (storesSoFar c (c .stores))
 
 -- and both chains are at their ends
-pub record StoresEnded (s : List ℕ) (summing : Bool) (reached : List Bool) (totals : List ℕ) (r : Walked) : Type 0 where
-  pub sources : List Bool
+pub record StoresEnded (s : List ℕ) (summing : Bool) (sources reached : List Bool) (totals : List ℕ) (counts : Counts) : Type 0 where
   pub holder : ℕ
-  pub passed : StoresPassed s summing sources reached totals holder 0 (r .counts)
+  pub passed : StoresPassed s summing sources reached totals holder 0 counts
 
-pub record StoresWalked (s : List ℕ) (summing : Bool) (reached : List Bool) (totals : List ℕ) (r : Walked) : Type 0 where
-  pub refuses : (r .verdict .number ≡ 0 → ⊥) → Refuses s (r .verdict .number) (r .verdict .slot)
-  pub ended : r .verdict .number ≡ 0 → StoresEnded s summing reached totals r
+abbrev pub StoresWalked : List ℕ → Bool → List Bool → List Bool → List ℕ → Walked → Type 0
+StoresWalked s summing sources reached totals r = ChainWalked s (StoresEnded s summing sources reached totals) r
+
+unfoldable pub plusLocomotive : Bool → List ℕ → LocomotiveAnswer → List ℕ
+plusLocomotive summing l a = if_then_else summing (plusToIn l (a .emissions) substanceCount) l
+
+-- where the locomotive chain begins: the store chain has ended
+pub record LocomotivesBegin (s : List ℕ) (summing : Bool) (sources reached : List Bool) (totals : List ℕ) (h : Header) (start : Walked) : Type 0 where
+  pub head : AllYes (headAsks s)
+  pub header : h ≡ headerAt s
+  pub stores : StoresEnded s summing sources reached totals (start .counts)
+
+-- the groups, the store records and the locomotives of c are passed, and the locomotive chain goes on at the link
+pub record LocomotivesPassed (s : List ℕ) (summing : Bool) (sources reached : List Bool) (totals : List ℕ) (holder link : ℕ) (counts : Counts) : Type 0 where
+  pub c : Chains
+  pub group-chain : Groups s c 0
+  pub store-chain : Stores s c 0
+  pub chain : Locomotives s c link
+  pub holder-is : holder ≡ lastOf (c .locomotives)
+  pub holds : Holds s summing sources reached totals counts (locomotivesSoFar c (c .locomotives))
+
+-- and all chains are at their ends
+pub record LocomotivesEnded (s : List ℕ) (summing : Bool) (sources reached : List Bool) (totals : List ℕ) (counts : Counts) : Type 0 where
+  pub holder : ℕ
+  pub passed : LocomotivesPassed s summing sources reached totals holder 0 counts
+
+abbrev pub LocomotivesWalked : List ℕ → Bool → List Bool → List Bool → List ℕ → Walked → Type 0
+LocomotivesWalked s summing sources reached totals r = ChainWalked s (LocomotivesEnded s summing sources reached totals) r
 
 -- a file that nothing is refused of
 pub record FileAccepted (s : List ℕ) (summing : Bool) (totals : List ℕ) (r : Walked) : Type 0 where

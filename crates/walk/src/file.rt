@@ -7,6 +7,7 @@ ghost use Rattle.slot_file.specs.Parts.{marksOf};
 ghost use Rattle.totals.specs.Totals.{noNumbers};
 ghost use Rattle.walk.specs.Walked.{FileWalked};
 use super::group_chain;
+use super::locomotive_chain;
 use super::questions;
 use super::store_chain;
 use super::walked;
@@ -24,7 +25,7 @@ fn no_marks() -> [bool; MOST_SLOTS]
     marks
 }
 
-// Questions 1 to 12 in order; where nothing is refused, the counts, and in `totals` the sums where they are wanted.
+// Questions 1 to 12 and 14 in order; where nothing is refused, the counts, and in `totals` the sums where they are wanted.
 fn walk_file(file: &[u8], totals: &mut [u64], summing: bool) -> Walked
     requires { ⌜ now totals ≡ noNumbers ⌝ }
     ensures { λ r. ⌜ FileWalked (now (file .entry)) summing (now (totals .exit)) r ⌝ }
@@ -44,7 +45,7 @@ fn walk_file(file: &[u8], totals: &mut [u64], summing: bool) -> Walked
     if verdict.number != 0 {
         return groups;
     }
-    let both = store_chain::walk_stores(
+    let stores = store_chain::walk_stores(
         file,
         &mut sources,
         &mut reached,
@@ -53,11 +54,24 @@ fn walk_file(file: &[u8], totals: &mut [u64], summing: bool) -> Walked
         summing,
         groups,
     );
-    let verdict = both.verdict;
+    let verdict = stores.verdict;
     if verdict.number != 0 {
-        return both;
+        return stores;
     }
-    let counts = both.counts;
+    let all = locomotive_chain::walk_locomotives(
+        file,
+        &mut sources,
+        &mut reached,
+        totals,
+        h,
+        summing,
+        stores,
+    );
+    let verdict = all.verdict;
+    if verdict.number != 0 {
+        return all;
+    }
+    let counts = all.counts;
     Walked {
         verdict: questions::ask_reached(&reached, file.len() / slots::SLOT_SIZE),
         counts,

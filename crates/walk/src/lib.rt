@@ -1,6 +1,7 @@
 // The walk over a slot file: its check, and its answer.
 pub mod file;
 mod group_chain;
+mod locomotive_chain;
 mod questions;
 mod rows;
 mod store_chain;

@@ -3,9 +3,11 @@ ghost use mathlib.Core.Path.{_≡_};
 ghost use Prim.Native.Nat.{_≤_};
 ghost use lib.ListN.{length};
 ghost use Rattle.vehicle_fields.specs.SootAndLead.{zeroWhereDue};
+ghost use Rattle.locomotives.specs.Fields.{sharesAddUp};
 ghost use Rattle.slot_file.specs.Sources.{headerAt};
 ghost use Rattle.slot_file.specs.Questions.{mostSlots, mostBytes, question, headAsks};
 ghost use Rattle.walk.specs.Told.{asked, Told, LinkTold, RowTold, ReachTold};
+use locomotives::Locomotive;
 use slot_file::MOST_SLOTS;
 use slots::CoefficientsRead;
 use slots::Header;
@@ -56,7 +58,7 @@ pub(crate) fn ask_head(file: &[u8], h: Header) -> Verdict
     accept()
 }
 
-// Questions 6 to 9, of a link to a group or store record: `number` is what the slot's read answers of 8 and 9.
+// Questions 6 to 9, of a link to a group, store record or locomotive: `number` is what the slot's read answers of 8 and 9.
 pub(crate) fn ask_link(
     file: &[u8],
     sources: &[bool; MOST_SLOTS],
@@ -125,6 +127,19 @@ pub(crate) fn ask_soot_and_lead(
     }
     if !vehicle_fields::zero_where_due(group, coefficients) {
         return refuse(11, link);
+    }
+    before
+}
+
+// Question 14, of a locomotive that was told `before` by the questions before it.
+pub(crate) fn ask_shares(before: Verdict, locomotive: Locomotive, link: u16) -> Verdict
+    ensures { λ r. ⌜ r ≡ asked before (question (sharesAddUp locomotive) 14 link) ⌝ }
+{
+    if before.number != 0 {
+        return before;
+    }
+    if !locomotives::shares_add_up(locomotive) {
+        return refuse(14, link);
     }
     before
 }

@@ -112,7 +112,7 @@ pub(crate) fn walk_stores(
     start: Walked,
 ) -> Walked
     requires { ⌜ StoresBegin (now file) summing (now sources) (now reached) (now totals) h start ⌝ }
-    ensures { λ r. ⌜ StoresWalked (now (file .entry)) summing (now (reached .exit)) (now (totals .exit)) r ⌝ }
+    ensures { λ r. ⌜ StoresWalked (now (file .entry)) summing (now (sources .exit)) (now (reached .exit)) (now (totals .exit)) r ⌝ }
 {
     let mut counts = start.counts;
     let mut holder = 0;

@@ -6,7 +6,7 @@ ghost use Rattle.slot_file.specs.Figures.{countsOf};
 use slot_file::Counts;
 use sums::Verdict;
 
-// What the links were told, and how many groups and store records were passed.
+// What the links were told, and how many groups, store records and locomotives were passed.
 pub(crate) struct Walked {
     pub(crate) verdict: Verdict,
     pub(crate) counts: Counts,
@@ -19,5 +19,6 @@ pub(crate) fn no_counts() -> Counts
     Counts {
         groups: 0,
         stores: 0,
+        locomotives: 0,
     }
 }

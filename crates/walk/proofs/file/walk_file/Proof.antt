@@ -1,12 +1,21 @@
 -- Each part is told of its questions, and goes on where the part before it ended.
 use native.Mathlib.Omega.{arith}
+use mathlib.Core.Path.{_≡_, _∙_}
+use lib.ListN.{length}
 use Rattle.slot_file.specs.Questions.{headAsks, lastAsks}
 use Rattle.slot_file.specs.Meaning.{AllYes, at-head, at-last}
 use Rattle.slot_file.proofs.Outcomes.{sized}
 use Rattle.walk.proofs.file.walk_file.Statement.{statement}
 use Rattle.walk.proofs.file.walk_file.Tie as tie
 
--- back from where the store chain has ended to its walk, to where the group chain has ended, to its walk, to where the head has passed, to the header, to the start
+-- back from where the locomotive chain has ended to its walk, to where the store chain has ended, to its walk, to where the group chain has ended, to its walk, to
+-- where the head has passed, to the header, to the start
+abbrev at-locomotives : tie.Else4 → tie.After-walk-locomotives
+at-locomotives c = c .before .before .before .before .before
+
+abbrev at-stores-end : tie.After-walk-locomotives → tie.Else3
+at-stores-end c = c .before .before .before .before
+
 abbrev at-stores : tie.Else3 → tie.After-walk-stores
 at-stores c = c .before .before .before .before .before
 
@@ -60,21 +69,44 @@ returns-3 c = record { refuses = c .before .before .before .before .before .walk
 abbrev passed-head : tie.Else3 → tie.Else1
 passed-head c = at-head-end (at-groups (at-groups-end (at-stores c)) .before)
 
-ask-reached-requires : tie.Need-ask-reached-requires
-ask-reached-requires c κs = sized _ (headed (passed-head (c .before .before)))
+walk-locomotives-requires : tie.Need-walk-locomotives-requires
+walk-locomotives-requires c κs =
+    let e = c .before .before .before in
+    let h = passed-head e in
+    record { head = headed h; header = at-header h .read-header .ensures; stores = at-stores e .walk-stores .ensures .ended (e .if3 .left) }
+
+-- no walk changes the room of the sums
+same-room : (l : tie.After-walk-locomotives) → length (l .walk-locomotives .last .1 .1 .1 .0) ≡ length (at-start (at-header (passed-head (at-stores-end l))) .args .totals .now)
+same-room l =
+    let s = at-stores (at-stores-end l) in
+    let g = at-groups (at-groups-end s) in
+    l .walk-locomotives .kept .1 .1 .1 .0 ∙ s .walk-stores .kept .1 .1 .1 .0 ∙ g .walk-groups .kept .1 .1 .1 .0
+
+same-length-3 : tie.Need-same-length-3
+same-length-3 c = same-room (c .before .before .before .before .before)
 
 returns-4 : tie.Need-returns-4
+returns-4 c = record { refuses = c .before .before .before .before .before .walk-locomotives .ensures .refuses; passes = λ y. absurd (c .if4 .taken y) }
+
+ask-reached-requires : tie.Need-ask-reached-requires
+ask-reached-requires c κs = sized _ (headed (passed-head (at-stores-end (at-locomotives (c .before .before)))))
+
+same-length-4 : tie.Need-same-length-4
+same-length-4 c = same-room (at-locomotives (c .before .before .before))
+
+returns-5 : tie.Need-returns-5
 unfolding lastAsks
-returns-4 c =
+returns-5 c =
     let e = c .before .before .before in
-    let h = headed (passed-head e) in
-    let p = at-stores e .walk-stores .ensures .ended (e .if3 .left) .passed in
+    let l = at-locomotives e in
+    let h = headed (passed-head (at-stores-end l)) in
+    let p = l .walk-locomotives .ensures .ended (e .if4 .left) .passed in
     let t = c .ask-reached .ensures _ (p .holds .reached-are) in
     record {
-      refuses = λ z. at-last (p .c) h (p .group-chain) (p .chain) (t .first z);
+      refuses = λ z. at-last (p .c) h (p .group-chain) (p .store-chain) (p .chain) (t .first z);
       passes = λ y. record {
         c = p .c;
-        accepts = record { head = h; groups = p .group-chain; stores = p .chain; last = t .all y };
+        accepts = record { head = h; groups = p .group-chain; stores = p .store-chain; locomotives = p .chain; last = t .all y };
         sources = _;
         reached = _;
         holds = p .holds;
@@ -85,4 +117,4 @@ pub walk-file-spec : {M : Type 1} → statement M
 walk-file-spec =
     tie.close
     (tie.spec (omega arith) (λ c κs. c .read-header .ensures) (omega arith) returns (omega arith) (omega arith) walk-groups-requires (omega arith) returns-2
-    walk-stores-requires (omega arith) returns-3 ask-reached-requires (omega arith) returns-4)
+    walk-stores-requires (omega arith) returns-3 walk-locomotives-requires same-length-3 returns-4 ask-reached-requires same-length-4 returns-5)

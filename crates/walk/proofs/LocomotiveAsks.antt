@@ -1,0 +1,25 @@
+-- All that is asked of a link to a locomotive: of the link, by what its slot reads as, and question 14. Assumes nothing.
+use Prim.Native.Nat.{ℕ, _≤_}
+use mathlib.Core.Path.{_≡_, ap}
+use mathlib.Core.Bool.{Bool}
+use mathlib.Core.List.{List}
+use lib.Dec.{lit<}
+use Rattle.sums.specs.declared.answer.Verdict.{Verdict}
+use Rattle.locomotives.specs.Fields.{sharesAddUp}
+use Rattle.slots.specs.Bytes.{slotOf}
+use Rattle.slots.specs.Layout.{locomotiveOf, locomotiveKind, locomotiveGood, locomotiveRead}
+use Rattle.slots.specs.declared.locomotive.LocomotiveRead.{LocomotiveRead}
+use Rattle.slot_file.specs.Sources.{locomotiveAt, Chains}
+use Rattle.slot_file.specs.Questions.{mostSlots, question, slotCount, lastOf, sourcesOf, locomotiveAsks}
+use Rattle.slot_file.specs.Parts.{marksOf}
+use Rattle.walk.specs.Told.{asked, Told, LinkTold}
+use Rattle.walk.proofs.Telling.{told-ask}
+
+pub locomotive-told : (s : List ℕ) (c : Chains) {k holder : ℕ} {sources : List Bool} {linked v : Verdict} {read : LocomotiveRead} → LinkTold s sources holder k (read .number) linked
+    → slotCount s ≤ mostSlots → read ≡ locomotiveRead (slotOf s k) → (k ≡ 0 → ⊥) → v ≡ asked linked (question (sharesAddUp (read .locomotive)) 14 k)
+    → sources ≡ marksOf (sourcesOf c) → holder ≡ lastOf (c .locomotives) → Told (locomotiveAsks s c k) v
+unfolding locomotiveAsks locomotiveAt locomotiveRead
+locomotive-told s c {k} {linked = linked} t l e z d m h =
+    let x = slotOf s k in
+    rw (← h) (told-ask linked _ _ 14 k (lit< tt) (t .told (sourcesOf c) (locomotiveKind x) (locomotiveGood x (locomotiveOf x)) l m z (ap (λ (r : LocomotiveRead). r .number) e))
+    (λ y. ap (λ (r : LocomotiveRead). sharesAddUp (r .locomotive)) e) d)
