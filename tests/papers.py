@@ -1,10 +1,11 @@
 """The source rules and the figures, worked out in exact fractions.
 
-This is the separate calculation that the library is held to. It is written from two papers alone:
-01, the scope paper of this project, and 000, SO 153-34.02.317-2003, whose tables and formulas 01
-takes over. Each function names the sentence or the table that it renders. Fields have the names
-and the units of 01, "The slot file"; nothing here is taken from the code, its definitions or its
-proofs. Where 01 leaves a name open (a refusal's substance code) this says so.
+This is the separate calculation that the library is held to. It is written from the papers alone:
+01, the scope paper of this project, with the changes of 02 (U1, locomotives), and 000, SO
+153-34.02.317-2003, whose tables and formulas they take over. Each function names the sentence or
+the table that it renders. Fields have the names and the units of 01, "The slot file", and of 02;
+nothing here is taken from the code, its definitions or its proofs. Where the papers leave a name
+open (a refusal's substance code) this says so.
 """
 from dataclasses import dataclass
 from fractions import Fraction
@@ -13,6 +14,7 @@ from math import floor
 ACCEPTED = 0
 OUT_OF_RANGE = 9
 MUST_BE_ZERO = 11
+SHARES_NOT_WHOLE = 14
 
 
 # What a rule answers.
@@ -367,12 +369,15 @@ def control_factor(group, pollutant):
     return Fraction(CONTROL[group.fuel].get(pollutant, "1"))
 
 
+# 01, "CO is 0337, NO2 0301, soot 0328, SO2 0330, lead 0184"
+CODES = {CO: 337, NO2: 301, SOOT: 328, SO2: 330, LEAD: 184}
+
+
 def code(group, pollutant):
-    """"Hydrocarbons count as 2704 for petrol and 2754 for diesel (house rule). CO is 0337, NO2
-    0301, soot 0328, SO2 0330, lead 0184"."""
+    """"Hydrocarbons count as 2704 for petrol and 2754 for diesel (house rule)"."""
     if pollutant == HYDROCARBONS:
         return {PETROL: 2704, DIESEL: 2754}[group.fuel]
-    return {CO: 337, NO2: 301, SOOT: 328, SO2: 330, LEAD: 184}[pollutant]
+    return CODES[pollutant]
 
 
 # Vehicle rules: the ranges of 01, "The slot file", "Slot 0", "Group" and "Coefficients".
@@ -455,6 +460,119 @@ def group(g):
         return refused(MUST_BE_ZERO, 6)
     emissions = tuple(
         Emission(code(g, p), annual_grams(g, p) / 1_000_000, peak_rate(g, p)) for p in POLLUTANTS
+    )
+    return Answer(ACCEPTED, 0, emissions)
+
+
+# Locomotive rules, 02, U1: the fields.
+
+
+@dataclass(frozen=True)
+class Locomotive:
+    model: int  # 02's "type"
+    idle: int  # share of the time in thousandths, and the four below
+    quarter: int
+    half: int
+    three_quarters: int
+    full: int
+    hours: int
+    old: int  # 1 for over two years old, else 0
+    zone: int  # 1 south of 44 degrees, 2 others, 3 north of 60 degrees
+
+    def shares(self):
+        return (self.idle, self.quarter, self.half, self.three_quarters, self.full)
+
+
+# Locomotive rules: the tables.
+
+# 000 table 21, kilograms an hour: idle, 25 %, 50 % and 75 % of the power Ne, the greatest power.
+# 02 has its types "1 to 4 in the order of 000 Table 21"
+KILOGRAMS = {
+    1: {  # ТГМ6
+        CO: ("0.84", "0.92", "1.36", "2.09", "4.13"),
+        NO2: ("4.11", "9.86", "11.37", "13.04", "15.21"),
+        SOOT: ("0.02", "0.06", "0.18", "0.29", "0.38"),
+    },
+    2: {  # ТГМ4
+        CO: ("0.64", "0.75", "0.93", "1.28", "2.63"),
+        NO2: ("1.50", "2.99", "5.24", "6.00", "7.02"),
+        SOOT: ("0.01", "0.06", "0.17", "0.22", "0.23"),
+    },
+    3: {  # ТГМ3
+        CO: ("0.54", "0.58", "0.91", "1.34", "2.66"),
+        NO2: ("2.06", "4.01", "7.22", "8.24", "9.21"),
+        SOOT: ("0.01", "0.03", "0.13", "0.15", "0.26"),
+    },
+    4: {  # ТУ4; ТГК2
+        CO: ("0.17", "0.22", "0.28", "0.39", "0.78"),
+        NO2: ("0.45", "0.88", "1.54", "1.75", "2.01"),
+        SOOT: ("0.004", "0.02", "0.05", "0.06", "0.07"),
+    },
+}
+
+# "CO, NO2 and soot join the sums"
+LOCOMOTIVE_POLLUTANTS = (CO, NO2, SOOT)
+
+# 000, K_тех: "1,2 - для тепловозов со сроком эксплуатации более 2 лет", else 1; 02, "1.2 if old"
+AGE = {0: "1", 1: "1.2"}
+
+# 000, K_кл, for the south, the other regions and the north; 02, "1.2, 1, 0.8 by zone"
+CLIMATE = {1: "1.2", 2: "1", 3: "0.8"}
+
+# 000, K_исп, "принимаемый равным 0,7 для промышленных тепловозов"
+USE = "0.7"
+
+
+# Locomotive rules: the ranges.
+
+
+def locomotive_in_range(r):
+    """"type, 1 to 4 ...; five 16-bit time shares of 0 to 1,000 thousandths ...; hours, 0 to 8,784;
+    16 is 1 for over two years old, else 0; 17 zone, 1 ..., 2 ..., 3 ..."."""
+    return (
+        r.model in KILOGRAMS
+        and all(0 <= share <= 1_000 for share in r.shares())
+        and 0 <= r.hours <= 8_784
+        and r.old in AGE
+        and r.zone in CLIMATE
+    )
+
+
+def shares_are_whole(r):
+    """Question 14: "14 when a locomotive's shares don't total 1,000"."""
+    return sum(r.shares()) == 1_000
+
+
+# Locomotive rules: the formulas.
+
+
+def locomotive_tonnes(r, pollutant):
+    """"Annual tonnes are the sum over the five modes of kg/h × share × hours × (1.2 if old, else 1)
+    × (1.2, 1, 0.8 by zone) × 0.7 / 1000"."""
+    total = Fraction(0)
+    for kilograms, thousandths in zip(KILOGRAMS[r.model][pollutant], r.shares()):
+        hours = Fraction(thousandths, 1_000) * r.hours
+        factors = Fraction(AGE[r.old]) * Fraction(CLIMATE[r.zone]) * Fraction(USE)
+        total += Fraction(kilograms) * hours * factors / 1_000
+    return total
+
+
+def locomotive_rate(r, pollutant):
+    """"The peak is the greatest kg/h among modes with a nonzero share, over 3.6"."""
+    modes = zip(KILOGRAMS[r.model][pollutant], r.shares())
+    greatest = max(Fraction(kilograms) for kilograms, thousandths in modes if thousandths != 0)
+    return greatest / Fraction("3.6")
+
+
+def locomotive(r):
+    """The three pollutants in their order. "14 ..., asked after its 9, by its source rule too"."""
+    if not locomotive_in_range(r):
+        return refused(OUT_OF_RANGE, 3)
+    if not shares_are_whole(r):
+        return refused(SHARES_NOT_WHOLE, 3)
+    emissions = tuple(
+        Emission(CODES[p], locomotive_tonnes(r, p), locomotive_rate(r, p))
+        for p in LOCOMOTIVE_POLLUTANTS
     )
     return Answer(ACCEPTED, 0, emissions)
 

@@ -3,12 +3,13 @@
     python3 tests/rule_cases.py stdin  > crates/rule_cases/stdin
     python3 tests/rule_cases.py stdout > crates/rule_cases/stdout
 
-The cases are those of cases.py, and what must be printed is worked out by papers.py.
+The cases are those of cases.py and locomotives.py, and what must be printed is worked out by
+papers.py.
 
 A case is a record of 320 bytes, numbers little-endian, other bytes zero:
 
     0..31   label, ASCII, padded with spaces
-    32      kind: 1 handling, 2 standing, 3 aspiration, 4 group, 5 sums
+    32      kind: 1 handling, 2 standing, 3 aspiration, 4 group, 5 sums, 6 locomotive
     34..35  how often the answer is added to the totals
     1, 2:   40 dust, 41 material, 42..43 store, 44..45 wind, 46..47 moisture, 48..49 grain,
             50 openness, 51 drop class, 52..55 amount, 56..57 K6
@@ -18,13 +19,16 @@ A case is a record of 320 bytes, numbers little-endian, other bytes zero:
             56..71 four distances, 72..83 days, 84..107 temperatures (signed),
             108..275 six pollutants of seven coefficients
     5:      40..55 exact units of a sum and 56..71 of another, 72..75 factor
+    6:      40 model, 41 old, 42 zone, 44..53 five shares, 54..55 hours
 
 Of a source the program prints its label, verdict and slot, then a line for each emission: code,
-annual whole and part, peak whole and part, annual and peak figure. Where the source is added to
-the totals, the lines follow of its emissions added up so often, with no code. Of sums it prints,
-for either type, `of` the first's low word, the sum, the product of the first and the factor, each
-as high word, low word, whole and part, and the figure of the first. The totals come last. A record
-that is cut off is left out.
+annual whole and part, peak whole and part, annual and peak figure; one line for a store record, six
+for a group, three for a locomotive. Where the source is added to the totals, the lines follow of
+its emissions added up so often, with no code. Of sums it prints, for either type, `of` the first's
+low word, the sum, the product of the first and the factor, each as high word, low word, whole and
+part, and the figure of the first. The totals come last: six lines, each with the emissions that
+stand in its place, so that a locomotive's are in the first three. A record that is cut off is left
+out.
 """
 import sys
 
@@ -35,6 +39,7 @@ from fractions import Fraction
 from math import floor
 
 import cases
+import locomotives
 import papers
 
 # Every exact unit has one denominator (01, "Figures"): parts in a printed unit
@@ -52,6 +57,7 @@ RULES = {
     papers.Standing: papers.standing,
     papers.Aspiration: papers.aspiration,
     papers.Group: papers.group,
+    papers.Locomotive: papers.locomotive,
 }
 
 
@@ -81,12 +87,17 @@ def sums_fields(s):
     return s.units.to_bytes(16, "little") + s.other.to_bytes(16, "little") + struct.pack("<I", s.factor)
 
 
+def locomotive_fields(r):
+    return struct.pack("<BBBx6H", r.model, r.old, r.zone, *r.shares(), r.hours)
+
+
 FIELDS = {
     papers.Handling: (1, lambda r: bulk_fields(r, r.drop, 0)),
     papers.Standing: (2, lambda r: bulk_fields(r, 0, r.k6)),
     papers.Aspiration: (3, aspiration_fields),
     papers.Group: (4, group_fields),
     cases.Sums: (5, sums_fields),
+    papers.Locomotive: (6, locomotive_fields),
 }
 
 
@@ -187,9 +198,20 @@ def assert_surveyed():
         assert papers.warm_up_minutes(car, Fraction(tenths, 10)) == minutes, tenths
 
 
+def assert_by_hand():
+    """The locomotives that were worked out by hand: nothing is rounded."""
+    for case, figures in locomotives.BY_HAND:
+        emissions = papers.locomotive(case.source).emissions
+        assert [e.code for e in emissions] == [337, 301, 328], case.label
+        for e, (tonnes, kilograms) in zip(emissions, figures):
+            assert e.tonnes == Fraction(tonnes), (case.label, e)
+            assert e.rate == Fraction(kilograms) / Fraction("3.6"), (case.label, e)
+
+
 def main():
     assert_surveyed()
-    every = cases.all_cases(DENOMINATORS)
+    assert_by_hand()
+    every = cases.all_cases(DENOMINATORS) + locomotives.all_cases()
     labels = [case.label for case in every]
     assert len(set(labels)) == len(labels), [x for x in labels if labels.count(x) > 1]
     cases.write_side("rule_cases.py", lambda: all_records(every), lambda: all_printed(every))
