@@ -3,8 +3,8 @@
     python3 tests/file_cases.py stdin
     python3 tests/file_cases.py stdout
 
-The files are those of file_edges.py, file_faults.py and file_mixes.py, and what must be printed is
-worked out by slot_file.py.
+The files are those of file_edges.py, file_locomotives.py, file_faults.py and file_mixes.py, and
+what must be printed is worked out by slot_file.py.
 
 The input is one record after another: 4 bytes, the length n of the file; 2 bytes, a number b; the n
 bytes of the file. Numbers are little-endian. Where b is 65,535 the program prints what the program
@@ -25,6 +25,7 @@ from fractions import Fraction
 import cases
 import file_edges
 import file_faults
+import file_locomotives
 import file_mixes
 import files
 import inventory
@@ -62,8 +63,18 @@ def lent():
     for case in bad:
         size = dice.pick((0, 1, 11, dice.below(300), 300, MOST_LENT))
         found.append(replace(case, lent=size))
-    for size in (0, 1, 266, 267, 268, 269, MOST_LENT):
+    for size in (0, 1, 266, 267, 268, 269, 270, 271, MOST_LENT):
         found.append(FileCase("no sources", files.build().data, ACCEPTED, size))
+    return found + lent_with_locomotives()
+
+
+def lent_with_locomotives():
+    dice = Dice(14)
+    found = []
+    for case in file_locomotives.by_hand() + file_mixes.valid_with_locomotives()[:10]:
+        found += lent_to(dice, case)
+    for case in file_locomotives.lone_faults()[20:100:4]:
+        found.append(replace(case, lent=dice.pick((0, dice.below(300), 300, MOST_LENT))))
     return found
 
 
@@ -73,8 +84,9 @@ def textbook():
 
 
 def all_files():
-    edges = file_edges.edge_files() + file_faults.faulty_pairs()
-    return edges + textbook() + file_mixes.mixed_files() + lent() + file_mixes.full()
+    edges = file_edges.edge_files() + file_locomotives.edge_files() + file_faults.faulty_pairs()
+    full = file_mixes.full() + file_mixes.full_of_locomotives()
+    return edges + textbook() + file_mixes.mixed_files() + lent() + full
 
 
 # The program's input and output
@@ -106,7 +118,7 @@ def expected_listing(source, tonnes, rate, repeat):
         figures = f"{tonnes} {rate}" if code == first else "0.000000 0.0000000"
         lines.append(f"{code:04} {figures}")
     groups = repeat if isinstance(source, papers.Group) else 0
-    lines.append(f"sources {groups} {repeat - groups}")
+    lines.append(f"sources {groups} {repeat - groups} 0")
     return "".join(line + "\n" for line in lines).encode("ascii")
 
 
@@ -114,7 +126,7 @@ def assert_surveyed():
     """Examples A to J. Of J 01 prints the peak only."""
     by_label = {case.label: case for case in file_edges.surveyed()}
     nothing = inventory.LISTING.replace(b"0.024000 0.0177778", b"0.000000 0.0000000")
-    nothing = nothing.replace(b"sources 1 0", b"sources 0 0")
+    nothing = nothing.replace(b"sources 1 0 0", b"sources 0 0 0")
     assert output(by_label["example A"]) == nothing
     assert output(by_label["example B"]) == inventory.LISTING
     assert output(by_label["example F, 14.1"]) == b"refused 9 1\n"
@@ -124,6 +136,28 @@ def assert_surveyed():
             assert f" {rate}\n2909" in text.decode(), case.label
         elif case.verdict == cases.OK:
             assert text == expected_listing(case.source, tonnes, rate, case.repeat), case.label
+
+
+# The first of the locomotives that were worked out by hand, rounded: 15.4592928, 0.1240092 and
+# 2.3875236 t; 4.225, 0.10555.. and 1.14722.. g/s
+BY_HAND = b"""\
+code t/year g/s
+0152 0.000000 0.0000000
+0184 0.000000 0.0000000
+0301 15.459293 4.2250000
+0328 0.124009 0.1055556
+0330 0.000000 0.0000000
+0337 2.387524 1.1472222
+2704 0.000000 0.0000000
+2754 0.000000 0.0000000
+2908 0.000000 0.0000000
+2909 0.000000 0.0000000
+sources 0 0 1
+"""
+
+
+def assert_by_hand():
+    assert output(file_locomotives.by_hand()[0]) == BY_HAND
 
 
 def assert_minutes():
@@ -148,6 +182,20 @@ def assert_halves():
     for coefficient, times, annual in ((2_499, 1, 0), (2_500, 1, 1), (2_500, 2, 1), (2_500, 3, 2)):
         f = files.build([file_mixes.idle_group(coefficient, 10)] * times)
         assert only_figures(f)[0] == annual, (coefficient, times)
+    assert_half_locomotives()
+
+
+def assert_half_locomotives():
+    """17.5 and 19.25 g of soot; 122.5 g of CO, and 0.5 g from each of the cars."""
+    half, quarter = file_mixes.HALF_SOOT, file_mixes.QUARTER_SOOT
+    soots = ((half, 1, 18), (half, 2, 35), (half, 3, 53), (quarter, 1, 19), (quarter, 2, 39))
+    for engine, times, annual in soots:
+        f = files.build(locomotives=[engine] * times)
+        assert slot_file.answer(f.data).figures[slot_file.CODES.index(328)][0] == annual, times
+    for cars, annual in ((0, 123), (1, 123), (2, 124)):
+        groups = [file_mixes.idle_group(2_500, 10)] * cars
+        f = files.build(groups, locomotives=[file_mixes.HALF_CO])
+        assert slot_file.answer(f.data).figures[slot_file.CODES.index(337)][0] == annual, cars
 
 
 def assert_buffers():
@@ -164,6 +212,9 @@ def assert_buffers():
 
 # What the cases must reach
 
+# The numbers of a file's refusals: 01's questions but for 13, which only a listing asks, and 02's
+REFUSALS = (*range(1, 13), 14)
+
 
 def assert_expected(every):
     """The number and slot that were typed beside a case."""
@@ -176,7 +227,7 @@ def assert_expected(every):
 
 def print_refusals(every):
     """The slots of each refusal number among the records that are printed."""
-    slots = {number: [] for number in range(13)}
+    slots = {number: [] for number in (0, *REFUSALS)}
     for case in every:
         if case.lent is None:
             a = slot_file.answer(case.data)
@@ -191,20 +242,21 @@ def list_numbers(every):
 
 
 def assert_reached(every):
-    assert 3_000 <= len(every) <= 6_000, len(every)
+    assert 3_000 <= len(every) <= 7_000, len(every)
     slots = print_refusals(every)
-    for number in range(1, 13):
+    for number in REFUSALS:
         assert len(slots[number]) >= 20, number
         different = 1 if number <= 5 else 5
         assert len(set(slots[number])) >= different, number
     assert len(slots[0]) >= 500
     lists = list_numbers(every)
     assert lists[13] >= 20 and lists[0] >= 20, lists
-    assert all(lists[number] >= 1 for number in range(1, 13)), lists
+    assert all(lists[number] >= 1 for number in REFUSALS), lists
 
 
 def main():
     assert_surveyed()
+    assert_by_hand()
     assert_minutes()
     assert_halves()
     assert_buffers()

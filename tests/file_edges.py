@@ -1,4 +1,5 @@
-"""Files at the edges of 01: its examples, each range, each byte and link, and each question."""
+"""Files at the edges of 01: its examples, each range, each byte and link, and each question. Those
+of the locomotives are in file_locomotives.py."""
 import struct
 from dataclasses import dataclass, replace
 
@@ -127,9 +128,13 @@ def unnamed_in_slot(dice, label, f, slot, expected, positions):
 
 
 def unnamed_bytes():
+    """Bytes 32..33 of slot 0 are a link by 02, U1: with any other value than 0 it leads beyond these
+    files."""
     dice = Dice(4)
-    found = unnamed_in_slot(dice, "slot 0", build(), 0, (4, 0), range(32, 64))
-    found += unnamed_in_slot(dice, "slot 0 of stores", BULK, 0, (4, 0), range(32, 64, 3))
+    found = unnamed_in_slot(dice, "slot 0", build(), 0, (6, 0), (32, 33))
+    found += unnamed_in_slot(dice, "slot 0", build(), 0, (4, 0), range(34, 64))
+    found += unnamed_in_slot(dice, "slot 0 of stores", BULK, 0, (6, 0), (32,))
+    found += unnamed_in_slot(dice, "slot 0 of stores", BULK, 0, (4, 0), range(35, 64, 3))
     slot = YARD.groups[0]
     found += unnamed_in_slot(dice, "group", YARD, slot, (9, slot), UNNAMED[GROUP])
     for kind, slot in zip((HANDLING, STANDING, ASPIRATION), BULK.stores):
@@ -363,15 +368,20 @@ def faulty_base(dice):
     return build([FLEET, DIESEL_FLEET], [COAL_HANDLED, LIMESTONE_STANDING, DUSTY_AIR], dice=dice)
 
 
-def lone_faults():
-    dice = Dice(6)
+def each_alone(dice, turns, base, every):
+    """Each of the faults of a base by itself, so many times, each time with other places of the
+    slots."""
     found = []
-    for turn in range(4):
-        f = faulty_base(dice if turn > 0 else None)
-        for fault in faults(f) + unreached_faults(f):
+    for turn in range(turns):
+        f = base(dice if turn > 0 else None)
+        for fault in every(f):
             data = changed(f.data, fault.changes)
             found.append(FileCase(f"{fault.label} {turn}", data, (fault.number, fault.slot)))
     return found
+
+
+def lone_faults():
+    return each_alone(Dice(6), 4, faulty_base, lambda f: faults(f) + unreached_faults(f))
 
 
 def touched(fault):
@@ -387,16 +397,15 @@ def pair_expected(first, second):
     return (first.number, first.slot)
 
 
-def fault_pairs():
-    """Pairs of faults in different bytes: each pair in one slot, and some of the others."""
-    dice = Dice(7)
+def pairs_of(dice, base, every):
+    """Pairs of a base's faults in different bytes: each pair in one slot, and some of the others."""
     found = []
-    every = len(faults(faulty_base(None)))
-    for i in range(every):
-        for j in range(i + 1, every):
+    number = len(every(base(None)))
+    for i in range(number):
+        for j in range(i + 1, number):
             some = dice.below(10) == 0
-            f = faulty_base(dice)
-            first, second = faults(f)[i], faults(f)[j]
+            f = base(dice)
+            first, second = every(f)[i], every(f)[j]
             if first.changes.keys() & second.changes.keys():
                 continue
             if some or touched(first) == touched(second):
@@ -404,6 +413,10 @@ def fault_pairs():
                 label = f"{first.label}, {second.label}"
                 found.append(FileCase(label, data, pair_expected(first, second)))
     return found
+
+
+def fault_pairs():
+    return pairs_of(Dice(7), faulty_base, faults)
 
 
 def edge_files():

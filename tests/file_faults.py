@@ -1,19 +1,21 @@
 """Files with two faults at once, for each two questions that follow each other in 01's table or on
-its walk: both are answered no, so that what is printed goes by the order of asking.
+its walk, and for 02's question 14 and each of 4 to 13: both are answered no, so that what is
+printed goes by the order of asking.
 
 A set has files in which the one fault is met before the other. Where 01 asks both questions at
 several places there is a set for either order: 9 of the first group and 8 of the second, and 8 of
 the first and 9 of the second. These can't stand so:
 
 - 1 and 2 in fewer than two bytes: there is no format number.
-- 2 before 1, 3 before 2, 4 before 3, 5 before 4, 6 before 5, 12 before 11, 13 before 12: each of 1
-  to 5 is asked once, before the walk, and 12 and 13 once, after it.
+- 2 before 1, 3 before 2, 4 before 3, 5 before 4, 6 before 5, 12 before 11 or 14, 13 before 12 or
+  14: each of 1 to 5 is asked once, before the walk, and 12 and 13 once, after it.
+- 14 before 10 or 11: locomotives are walked last.
 - 6 and 7, 6 and 8 or 6 and 9 of one link: no slot, so no met one either, has a number as high as
   the slot count. 10 and 6 of one link: zero is below the slot count.
 - 6 or 7 before another fault on one chain: a link that is refused leads to no more of it. So the
-  other fault is in the store chain, or in rows that a later group has too.
-- 7 and 8 of one link but from the store chain to a group: a slot that was met on its own chain has
-  a kind that this chain carries.
+  other fault is in a later chain, or in rows that a later group has too.
+- 7 and 8 of one link but from a later chain to a source of an earlier one: a slot that was met on
+  its own chain has a kind that this chain carries.
 """
 from dataclasses import replace
 from itertools import combinations
@@ -22,7 +24,9 @@ import cases
 import slot_file
 from cases import COAL_HANDLED, DUSTY_AIR, FLEET, LIMESTONE_STANDING, Dice
 from file_edges import Fault, touched
+from file_locomotives import THIRD
 from files import FileCase, always, build, byte, changed, long, shuffled, word
+from locomotives import SHUNTER, SMALL
 from papers import BUS, CO, DIESEL, LEAD
 from slot_file import SLOT
 
@@ -55,7 +59,18 @@ def both(dice):
     return f
 
 
-# Faults in the order in which 01 asks about them
+def rails(dice):
+    """Locomotives alone: five slots."""
+    return build(dice=dice, locomotives=[SHUNTER, SMALL, THIRD, SHUNTER])
+
+
+def all_three(dice):
+    """The sources of both, and two locomotives: thirteen slots."""
+    groups, tracks = [PETROL_GROUP, DIESEL_GROUP], [SHUNTER, SMALL]
+    return build(groups, [COAL_HANDLED], dice=dice, may_share=always, locomotives=tracks)
+
+
+# Faults in the order in which 01 and 02 ask about them
 
 
 def slot_0_faults(f):
@@ -63,7 +78,7 @@ def slot_0_faults(f):
     return (
         [Fault(f"format {x}", 2, 0, word(0, 0, x)) for x in (0, 2, 256, 257, 65_535)]
         + [Fault(f"count {x}", 3, 0, word(0, 2, x)) for x in (0, n + 1, n + 2, n + 256, 65_535)]
-        + [Fault(f"byte {x} of slot 0", 4, 0, byte(0, x, 1 + x)) for x in (32, 33, 40, 55, 62, 63)]
+        + [Fault(f"byte {x} of slot 0", 4, 0, byte(0, x, 1 + x)) for x in (34, 35, 40, 55, 62, 63)]
         + [Fault(f"January {x}", 5, 0, word(0, 8, x)) for x in (601, -601)]
         + [Fault(f"June {x}", 5, 0, word(0, 18, x)) for x in (-32_768, 700)]
         + [Fault(f"December {x}", 5, 0, word(0, 30, x)) for x in (-601, 32_767)]
@@ -177,7 +192,7 @@ def group_chain_faults(f, n):
 
 
 def link_faults(f, n, holder, at, label, met, hidden):
-    """A link of the store chain: beyond, to each source that was met before, to a row."""
+    """A link of a later chain: beyond, to each source that was met before, to a row."""
     found = [Fault(f"{label} beyond", 6, holder, word(holder, at, n), hidden)]
     for source in met:
         found.append(Fault(f"{label} is {source}", 7, source, word(holder, at, source), hidden))
@@ -186,20 +201,39 @@ def link_faults(f, n, holder, at, label, met, hidden):
     return found
 
 
-def store_chain_faults(f, n):
-    """Each link of the chain, and each record's kind and fields."""
-    stores, met = f.stores, list(f.groups)
-    found = link_faults(f, n, 0, 6, "first store", met, frozenset(stores))
-    for place, store in enumerate(stores):
-        found += [
-            Fault(f"store {place} kind 1", 8, store, byte(store, 2, 1)),
-            Fault(f"store {place} kind 6", 8, store, byte(store, 2, 6)),
-            Fault(f"store {place} dust 4", 9, store, byte(store, 3, 4)),
-            Fault(f"store {place} unnamed", 9, store, byte(store, 63, 1)),
-        ]
-        met.append(store)
-        after = frozenset(stores[place + 1 :])
-        found += link_faults(f, n, store, 0, f"store {place} next", met, after)
+def store_faults(name, store):
+    """A record's kind and fields."""
+    return [
+        Fault(f"{name} kind 1", 8, store, byte(store, 2, 1)),
+        Fault(f"{name} kind 6", 8, store, byte(store, 2, 6)),
+        Fault(f"{name} dust 4", 9, store, byte(store, 3, 4)),
+        Fault(f"{name} unnamed", 9, store, byte(store, 63, 1)),
+    ]
+
+
+def locomotive_faults(name, slot):
+    """A locomotive's kind and fields, and the total of its shares."""
+    return [
+        Fault(f"{name} kind 1", 8, slot, byte(slot, 2, 1)),
+        Fault(f"{name} kind 5", 8, slot, byte(slot, 2, 5)),
+        Fault(f"{name} type 0", 9, slot, byte(slot, 3, 0)),
+        Fault(f"{name} half 1,001", 9, slot, word(slot, 8, 1_001)),
+        Fault(f"{name} hours 8,785", 9, slot, word(slot, 14, 8_785)),
+        Fault(f"{name} unnamed", 9, slot, byte(slot, 63, 1)),
+        Fault(f"{name} idle 0", 14, slot, word(slot, 4, 0)),
+        Fault(f"{name} full 1,000", 14, slot, word(slot, 12, 1_000)),
+    ]
+
+
+def chain_faults(f, n, name, at, chain, met, own):
+    """Each link of a later chain, and each of its slots' own."""
+    met = list(met)
+    found = link_faults(f, n, 0, at, f"first {name}", met, frozenset(chain))
+    for place, slot in enumerate(chain):
+        found += own(f"{name} {place}", slot)
+        met.append(slot)
+        after = frozenset(chain[place + 1 :])
+        found += link_faults(f, n, slot, 0, f"{name} {place} next", met, after)
     return found
 
 
@@ -209,24 +243,35 @@ def unreached(label, hidden, changes):
 
 def unreached_faults(f):
     """Links that leave slots out."""
-    found = [unreached("no first store", f.stores, word(0, 6, 0))]
+    found = []
+    if f.stores:
+        found.append(unreached("no first store", f.stores, word(0, 6, 0)))
     if f.groups:
         g, h = f.groups
         found.append(unreached("h left out", (h, f.rows[1][0]), word(g, 0, 0)))
-    else:
+    elif f.stores:
         found.append(unreached("one store alone", f.stores[1:], word(f.stores[0], 0, 0)))
+    if f.locomotives:
+        l, *others = f.locomotives
+        found.append(unreached("no first locomotive", f.locomotives, word(0, 32, 0)))
+        found.append(unreached("one locomotive alone", others, word(l, 0, 0)))
     return found
 
 
 def faults(f):
     n = f.count()
     found = slot_0_faults(f)
+    if n == 1:
+        links = [(at, x) for at in (4, 6) for x in (n, 9)]
+        return found + [Fault(f"link at {at} beyond", 6, 0, word(0, at, x)) for at, x in links]
     if f.groups:
         found += group_chain_faults(f, n)
     if f.stores:
-        return found + store_chain_faults(f, n) + unreached_faults(f)
-    beyond = [Fault(f"link at {at} beyond", 6, 0, word(0, at, x)) for at in (4, 6) for x in (n, 9)]
-    return found + beyond
+        found += chain_faults(f, n, "store", 6, f.stores, f.groups, store_faults)
+    if f.locomotives:
+        met = f.groups + f.stores
+        found += chain_faults(f, n, "locomotive", 32, f.locomotives, met, locomotive_faults)
+    return found + unreached_faults(f)
 
 
 # Pairs of faults
@@ -285,6 +330,12 @@ def from_both(dice, earlier, later):
     return pairs(bulk, dice, 12, earlier, later) + pairs(both, dice, 10, earlier, later)
 
 
+def with_rails(dice, earlier, later, keep=lambda first, second: True):
+    """Files of locomotives alone, and of all three chains."""
+    alone = pairs(rails, dice, 14, earlier, later, keep)
+    return alone + pairs(all_three, dice, LEAST - 14, earlier, later, keep)
+
+
 # Which pairs
 
 
@@ -320,6 +371,28 @@ def of_next_group(first, second):
     return second.label.startswith("h ")
 
 
+def of_link_after(first, second):
+    """Of one locomotive and of the link that it holds."""
+    return touched(first) == touched(second) and "next" in second.label
+
+
+# Of the chains before the locomotives
+GROUPS = ("first group", "g ", "h ", "row", "soot", "lead")
+STORES = ("first store", "store")
+
+
+def group_before_locomotive(first, second):
+    return first.label.startswith(GROUPS) and "locomotive" in second.label
+
+
+def store_before_locomotive(first, second):
+    return first.label.startswith(STORES) and "locomotive" in second.label
+
+
+def locomotive_first(first, second):
+    return "locomotive" in first.label
+
+
 # Sets that are not pairs of changes
 
 
@@ -335,28 +408,60 @@ def lengths_and_formats():
     return found
 
 
-def met_and_of_another_kind(dice):
-    """7 and 8 of one link: from the store chain to a group."""
+def slot_0_and_locomotive(number):
+    """One of 3 to 5, and a first locomotive beyond the file: bytes 32..33 of slot 0 are no part of
+    question 4."""
+    f, found = nothing(None), []
+    for fault in slot_0_faults(f):
+        for link in (1, 33, 34 << 8, 65_535):
+            if fault.number == number:
+                data = changed(f.data, {**fault.changes, **word(0, 32, link)})
+                found.append(FileCase(f"{fault.label}, locomotive {link}", data, (number, 0)))
+    return found
+
+
+def met_and_of_another_kind(f, holders, met):
+    """7 and 8 of one link: to a source of an earlier chain."""
+    found = []
+    for holder, at in holders:
+        for source in met:
+            data = changed(f.data, word(holder, at, source))
+            found.append(FileCase(f"{holder} leads to source {source}", data, (7, source)))
+    return found
+
+
+def stores_to_groups(dice):
     found = []
     for _ in range(LEAST // 4):
         f = both(dice)
-        for holder, at in ((0, 6), (f.stores[0], 0)):
-            for group in f.groups:
-                data = changed(f.data, word(holder, at, group))
-                found.append(FileCase(f"{holder} leads to group {group}", data, (7, group)))
+        found += met_and_of_another_kind(f, ((0, 6), (f.stores[0], 0)), f.groups)
     return found
 
 
-def unreached_and_short(dice):
-    """12 and 13: a slot that no chain reaches, and a buffer shorter than any listing."""
+def locomotives_to_others(dice):
+    found = []
+    for _ in range(LEAST // 6 + 1):
+        f = all_three(dice)
+        holders = ((0, 32), (f.locomotives[0], 0))
+        found += met_and_of_another_kind(f, holders, f.groups + f.stores)
+    return found
+
+
+def refused_and_short(dice, small, large, refusing):
+    """A refused file, and 13: a buffer shorter than any listing."""
     found = []
     for turn in range(LEAST + 2):
-        f = bulk(dice) if turn % 6 else both(dice)
-        fault = unreached_faults(f)[turn % 2]
+        f = small(dice) if turn % 6 else large(dice)
+        fault = refusing(f)[turn % 2]
         assert_lone(f, fault)
         data = changed(f.data, fault.changes)
-        found.append(FileCase(f"{fault.label}, {turn} lent", data, (12, fault.slot), turn))
+        label = f"{fault.label}, {turn} lent"
+        found.append(FileCase(label, data, (fault.number, fault.slot), turn))
     return found
+
+
+def uneven_faults(f):
+    return [fault for fault in faults(f) if fault.number == 14]
 
 
 # The sets
@@ -384,7 +489,7 @@ def one_slot_sets(dice):
     """Where exchanging two questions at one slot, or in one group, would show."""
     bulk_slots = pairs(bulk, dice, 10, (8,), (9,), of_one_slot)
     return {
-        "7 and 8 of one link": met_and_of_another_kind(dice),
+        "7 and 8 of one link": stores_to_groups(dice),
         "8 and 9 of one slot": bulk_slots + pairs(both, dice, 12, (8,), (9,), of_one_slot),
         "9 and 10 of one row": pairs(both, dice, LEAST, (9,), (10,), of_one_pollutant),
         "9 of a slot, 10 of its link": pairs(both, dice, LEAST, (9,), (10,), of_one_slots_link),
@@ -411,14 +516,49 @@ def late_sets(dice):
         "11, then the next group": pairs(both, dice, half, (11,), (6, 7, 8), of_next_link)
         + pairs(both, dice, half, (11,), (6, 8, 9, 10), of_next_group),
         "6 to 10, then 12": pairs(both, dice, LEAST, (6, 7, 8, 9, 10), (12,)),
-        "12 and 13": unreached_and_short(dice),
+        "12 and 13": refused_and_short(dice, bulk, both, unreached_faults),
+    }
+
+
+def uneven_sets(dice):
+    """14 and each of 4 to 13, in either order where they can stand so."""
+    found = {}
+    for one, other in ((4, 14), (5, 14), (6, 14), (7, 14), (10, 14), (11, 14), (14, 12)):
+        found[f"{one}, then {other}"] = pairs(all_three, dice, LEAST, (one,), (other,))
+    for one, other in ((8, 14), (9, 14), (14, 6), (14, 7), (14, 8), (14, 9)):
+        found[f"{one}, then {other}"] = with_rails(dice, (one,), (other,))
+    return {
+        **found,
+        "8 and 14 of one slot": with_rails(dice, (8,), (14,), of_one_slot),
+        "9 and 14 of one slot": with_rails(dice, (9,), (14,), of_one_slot),
+        "14, then 6 or 7 of its link": with_rails(dice, (14,), (6, 7), of_link_after),
+        "14 and 13": refused_and_short(dice, rails, all_three, uneven_faults),
+    }
+
+
+def locomotive_sets(dice):
+    """The locomotive chain after slot 0 and the other two, and before 12."""
+    own, others = (6, 7, 8, 9, 14), (6, 7, 8, 9, 10, 11)
+    return {
+        "3, then a locomotive beyond": slot_0_and_locomotive(3),
+        "4, then a locomotive beyond": slot_0_and_locomotive(4),
+        "5, then a locomotive beyond": slot_0_and_locomotive(5),
+        "7 and 8 of one locomotive link": locomotives_to_others(dice),
+        "groups, then locomotives": pairs(
+            all_three, dice, LEAST, others, own, group_before_locomotive
+        ),
+        "stores, then locomotives": pairs(
+            all_three, dice, LEAST, others, own, store_before_locomotive
+        ),
+        "locomotives, then 12": pairs(all_three, dice, LEAST, own, (12,), locomotive_first),
     }
 
 
 def all_sets():
     dice = Dice(45)
     sets = {}
-    for part in (slot_0_sets, walk_sets, one_slot_sets, row_sets, late_sets):
+    parts = (slot_0_sets, walk_sets, one_slot_sets, row_sets, late_sets, uneven_sets, locomotive_sets)
+    for part in parts:
         sets.update(part(dice))
     for name, found in sets.items():
         different = {(case.data, case.lent) for case in found}

@@ -2,13 +2,14 @@
 from dataclasses import replace
 
 import cases
+import locomotives
 import papers
 import slot_file
 from cases import COAL_HANDLED, SLAG_STANDING, THIN_AIR
 from cases import DIESEL_FLEET, FLEET, YEAR, Dice
 from files import ACCEPTED, FileCase, always, build, byte, changed, never, shuffled, word
 from papers import Coefficients, DIESEL, PETROL
-from slot_file import SLOT, GROUP
+from slot_file import SLOT, GROUP, LOCOMOTIVE
 
 # Valid files
 
@@ -51,14 +52,28 @@ def coin(dice):
     return lambda: dice.below(2) == 0
 
 
-def any_file(dice, most_groups=3, most_stores=5):
+def any_locomotives(dice, most):
+    """Where there are none at most, no dice are thrown."""
+    number = dice.below(most + 1) if most > 0 else 0
+    return [locomotives.any_locomotive(dice) for _ in range(number)]
+
+
+def any_file(dice, most_groups=3, most_stores=5, most_locomotives=0):
     groups, stores = any_groups(dice, most_groups), any_stores(dice, most_stores)
-    return build(groups, stores, any_months(dice), dice, dice.pick((never, always, coin(dice))))
+    engines = any_locomotives(dice, most_locomotives)
+    months, may_share = any_months(dice), dice.pick((never, always, coin(dice)))
+    return build(groups, stores, months, dice, may_share, engines)
 
 
 def valid():
     dice = Dice(1)
     return [FileCase(f"valid {i}", any_file(dice).data, ACCEPTED) for i in range(420)]
+
+
+def valid_with_locomotives():
+    dice = Dice(101)
+    files = [any_file(dice, i % 3, 3, 5) for i in range(60)]
+    return [FileCase(f"valid, three chains {i}", f.data, ACCEPTED) for i, f in enumerate(files)]
 
 
 NEITHER = cases.with_coefficients(FLEET, papers.LEAD, cases.NO_COEFFICIENTS)
@@ -88,28 +103,32 @@ def repeated(dice, sources):
     return [source for source in sources for _ in range(dice.pick((1, 1, 1, 2, 3)))]
 
 
-def alike_files(dice):
-    """Files alike in their temperatures, groups and store records."""
+def alike_files(dice, most_locomotives):
+    """Files alike in their temperatures, groups, store records and locomotives."""
     groups = repeated(dice, any_groups(dice, 2))
     stores = repeated(dice, any_stores(dice, 4))
+    engines = repeated(dice, any_locomotives(dice, most_locomotives))
     months = any_months(dice)
-    files = [build(groups, stores, months), build(groups, stores, months, None, always)]
+    files = [build(groups, stores, months, None, share, engines) for share in (never, always)]
     for may_share in (never, always, coin(dice)):
         mixed = shuffled(dice, groups), shuffled(dice, stores)
-        files.append(build(*mixed, months, dice, may_share))
+        files.append(build(*mixed, months, dice, may_share, shuffled(dice, engines)))
     return [f.data for f in files]
 
 
-def alike():
+def families(dice, number, most_locomotives):
     """Demand 3: alike files get the same answers."""
-    dice = Dice(3)
     found = []
-    for family in range(60):
-        files = alike_files(dice)
+    for family in range(number):
+        files = alike_files(dice, most_locomotives)
         answers = {slot_file.answer(data) for data in files}
         assert len(answers) == 1, family
         found += [FileCase(f"alike {family}", data, ACCEPTED) for data in files]
     return found
+
+
+def alike():
+    return families(Dice(3), 60, 0) + families(Dice(303), 12, 4)
 
 
 def half_air(capture):
@@ -154,6 +173,29 @@ def half_groups():
         for times in (1, 2, 3):
             found.append(build([idle_group(coefficient, idle)] * times, may_share=always))
     return found
+
+
+def small_engine(**shares):
+    """A ТУ4 that runs for one hour."""
+    return locomotives.with_shares(locomotives.IDLING, **shares)
+
+
+# 0.7 × (0.004 × 625 + 0.06 × 375) is 17.5 g of soot; 0.7 × (0.02 × 750 + 0.05 × 250) is 19.25 g;
+# 0.7 × (0.17 × 900 + 0.22 × 100) is 122.5 g of CO
+HALF_SOOT = small_engine(idle=625, three_quarters=375)
+QUARTER_SOOT = small_engine(quarter=750, half=250)
+HALF_CO = small_engine(idle=900, quarter=100)
+
+
+def half_locomotives():
+    """Sums at half a gram and at either side of it, and CO of which a group has the other half."""
+    less, more = small_engine(idle=626, three_quarters=374), small_engine(idle=624, three_quarters=376)
+    found = []
+    for times in (1, 2, 3):
+        for engine in (HALF_SOOT, QUARTER_SOOT, HALF_CO, less, more):
+            found.append(build(locomotives=[engine] * times))
+        found.append(build([idle_group(2_500, 10)] * times, locomotives=[HALF_CO]))
+    return [FileCase(f"half, locomotives {i}", f.data, ACCEPTED) for i, f in enumerate(found)]
 
 
 def halves():
@@ -225,6 +267,23 @@ def full():
     return found
 
 
+def full_of_locomotives():
+    """The largest alone, and with the largest groups and store records."""
+    dice = Dice(1_023)
+    rails = build(dice=dice, locomotives=[locomotives.LARGEST] * 1_023)
+    groups = [LARGEST["largest petrol group"], LARGEST["largest diesel group"]] * 150
+    engines = [locomotives.LARGEST, locomotives.NEARLY] * 205 + [locomotives.LARGEST]
+    mix = build(groups, largest_stores(300), FREEZING, dice, always, engines)
+    assert rails.count() == mix.count() == 1_024
+    last = rails.locomotives[-1]
+    uneven = changed(rails.data, word(last, 4, 1))
+    return [
+        FileCase("full locomotives", rails.data, ACCEPTED),
+        FileCase("full of three chains", mix.data, ACCEPTED),
+        FileCase("full, the last uneven", uneven, (14, last)),
+    ]
+
+
 # Files with faults that nobody chose
 
 
@@ -247,15 +306,34 @@ def any_link(dice, n):
     return dice.below(n + 1) if dice.below(6) == 0 else dice.below(n)
 
 
+def linked(dice, n, slot):
+    """The slot with links that go anywhere."""
+    slot = changed(slot, word(0, 0, any_link(dice, n)))
+    if slot[2] == GROUP:
+        slot = changed(slot, word(0, 34, any_link(dice, n)))
+    return slot
+
+
 def tangled_file(dice):
     """Valid slots whose links go anywhere."""
     n = dice.between(2, 7)
     data = slot_file.header(n, any_link(dice, n), any_link(dice, n), any_months(dice))
     for _ in range(1, n):
-        slot = changed(any_slot(dice), word(0, 0, any_link(dice, n)))
-        if slot[2] == GROUP:
-            slot = changed(slot, word(0, 34, any_link(dice, n)))
-        data += slot
+        data += linked(dice, n, any_slot(dice))
+    return data
+
+
+def any_engine(dice):
+    return slot_file.locomotive_slot(locomotives.any_locomotive(dice), 0)
+
+
+def tangled_engines(dice):
+    """Locomotives and now and then another slot; a link of another chain is mostly zero."""
+    n = dice.between(2, 7)
+    others = [dice.pick((0, 0, 0, any_link(dice, n))) for _ in range(2)]
+    data = slot_file.header(n, *others, any_months(dice), dice.between(1, n - 1))
+    for _ in range(1, n):
+        data += linked(dice, n, dice.pick((any_engine, any_engine, any_engine, any_slot))(dice))
     return data
 
 
@@ -282,7 +360,8 @@ def tangled():
     for i in range(220):
         found.append(FileCase(f"tangled {i}", tangled_file(dice)))
         found.append(FileCase(f"tangled stores {i}", tangled_stores(dice)))
-    return found + [FileCase(f"tangled rows {i}", tangled_rows(dice)) for i in range(60)]
+    found += [FileCase(f"tangled rows {i}", tangled_rows(dice)) for i in range(60)]
+    return found + [FileCase(f"tangled engines {i}", tangled_engines(dice)) for i in range(60)]
 
 
 def damaged_byte(dice, data):
@@ -291,11 +370,32 @@ def damaged_byte(dice, data):
     return changed(data, {at: dice.pick((0, 1, 255, dice.below(256), one_bit))})
 
 
+def wrong_link(dice, n):
+    return dice.pick((0, dice.below(n), dice.below(n), n, n - 1, n + 1, dice.below(65_536)))
+
+
 def damaged_link(dice, data):
     n = len(data) // SLOT
     slot = dice.below(n)
-    value = dice.pick((0, dice.below(n), dice.below(n), n, n - 1, n + 1, dice.below(65_536)))
+    value = wrong_link(dice, n)
     return changed(data, word(slot, dice.pick((4, 6) if slot == 0 else (0, 0, 0, 34)), value))
+
+
+def engine_slots(data):
+    return [at // SLOT for at in range(SLOT, len(data), SLOT) if data[at + 2] == LOCOMOTIVE]
+
+
+def damaged_engine_link(dice, data):
+    """Slot 0's link to the first locomotive, or one that a locomotive holds."""
+    slot = dice.pick([0] + engine_slots(data))
+    return changed(data, word(slot, 32 if slot == 0 else 0, wrong_link(dice, len(data) // SLOT)))
+
+
+def damaged_share(dice, data):
+    """A share, or the hours, of the last locomotive in the file."""
+    at = 4 + 2 * dice.below(6)
+    changes = [word(slot, at, dice.below(1_003)) for slot in engine_slots(data)[-1:]]
+    return changed(data, changes[0]) if changes else data
 
 
 def damaged_kind(dice, data):
@@ -355,6 +455,9 @@ DAMAGES = (
 )
 
 
+ENGINE_DAMAGES = (damaged_engine_link, damaged_engine_link, damaged_share, damaged_share) + DAMAGES
+
+
 def damaged():
     dice = Dice(8)
     found = []
@@ -368,6 +471,9 @@ def damaged():
     for i in range(60):
         data = damaged_length(dice, any_file(dice, 1, 2).data)
         found.append(FileCase(f"damaged length {i}", data))
+    for i in range(90):
+        data = dice.pick(ENGINE_DAMAGES)(dice, any_file(dice, i % 2, 2, 4).data)
+        found.append(FileCase(f"damaged, three chains {i}", data))
     return found
 
 
@@ -391,8 +497,10 @@ def mixed_files():
     return (
         shared_rows()
         + valid()
+        + valid_with_locomotives()
         + alike()
         + halves()
+        + half_locomotives()
         + tangled()
         + damaged()
         + any_bytes()

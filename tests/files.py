@@ -32,6 +32,7 @@ class File:
     groups: tuple
     rows: tuple
     stores: tuple
+    locomotives: tuple
 
     def count(self):
         return len(self.data) // SLOT
@@ -89,24 +90,35 @@ def row_slots(rows, numbers):
     return slots
 
 
-def build(groups=(), stores=(), months=cases.YEAR, dice=None, may_share=never):
+def parted(numbers, *lengths):
+    """So many of the numbers to each, one after another."""
+    parts, at = [], 0
+    for length in lengths:
+        parts.append(numbers[at : at + length])
+        at += length
+    return parts
+
+
+def build(groups=(), stores=(), months=cases.YEAR, dice=None, may_share=never, locomotives=()):
     """The file of these sources. With dice its slots are shuffled."""
     rows, chains = rows_of(groups, may_share)
-    numbers = list(range(1, 1 + len(groups) + len(rows) + len(stores)))
+    lengths = (len(groups), len(rows), len(stores), len(locomotives))
+    numbers = list(range(1, 1 + sum(lengths)))
     if dice is not None:
         numbers = shuffled(dice, numbers)
-    of_groups = numbers[: len(groups)]
-    of_rows = numbers[len(groups) : len(groups) + len(rows)]
-    of_stores = numbers[len(groups) + len(rows) :]
+    of_groups, of_rows, of_stores, of_locomotives = parted(numbers, *lengths)
     slots = row_slots(rows, of_rows)
-    slots[0] = slot_file.header(1 + len(numbers), first(of_groups), first(of_stores), months)
+    heads = first(of_groups), first(of_stores), months, first(of_locomotives)
+    slots[0] = slot_file.header(1 + len(numbers), *heads)
     for g, chain, (number, after) in zip(groups, chains, successors(of_groups)):
         slots[number] = slot_file.group_slot(g, after, of_rows[chain[0]])
     for r, (number, after) in zip(stores, successors(of_stores)):
         slots[number] = slot_file.store_slot(r, after)
+    for r, (number, after) in zip(locomotives, successors(of_locomotives)):
+        slots[number] = slot_file.locomotive_slot(r, after)
     data = b"".join(slots[number] for number in range(len(slots)))
     found = tuple(tuple(of_rows[row] for row in chain) for chain in chains)
-    return File(data, tuple(of_groups), found, tuple(of_stores))
+    return File(data, tuple(of_groups), found, tuple(of_stores), tuple(of_locomotives))
 
 
 def changed(data, changes):

@@ -108,10 +108,11 @@ def slow_pipe(program):
 
 
 def long_input(program):
-    full = file_mixes.full()[0].data
-    assert len(full) == 65_536
-    assert_printed(ended(program, input=full), slot_file.printed(full), "the longest")
-    assert_printed(ended(program, input=full + b"\0"), b"refused 1 0\n", "a byte more")
+    for case in file_mixes.full()[:1] + file_mixes.full_of_locomotives():
+        full = case.data
+        assert len(full) == 65_536
+        assert_printed(ended(program, input=full), slot_file.printed(full), case.label)
+        assert_printed(ended(program, input=full + b"\0"), b"refused 1 0\n", "a byte more")
     with open("/dev/zero", "rb") as endless:
         assert_printed(ended(program, stdin=endless), b"refused 1 0\n", "no end")
 
@@ -166,7 +167,8 @@ def room_for_a_part(program):
 
 
 def under_valgrind(program):
-    kinds = (b"", b"\1", example(), example()[:-64], file_mixes.full()[0].data, bytes(70_000))
+    kinds = [b"", b"\1", example(), example()[:-64], file_mixes.full()[0].data, bytes(70_000)]
+    kinds += [case.data for case in file_mixes.full_of_locomotives()]
     words = ["valgrind", "-q", "--error-exitcode=9", "--leak-check=full", program]
     for data in kinds:
         done = subprocess.run(words, input=data, capture_output=True)

@@ -4,7 +4,7 @@
     python3 tests/inventory.py stdout > crates/inventory/stdout
 
 The file is put together from 01, "The slot file", and the listing is worked out by slot_file.py; it
-must be the one that 01 prints.
+must be the one that 01 prints, with 02's third count.
 """
 import sys
 
@@ -14,7 +14,7 @@ import cases
 import papers
 import slot_file
 
-# 01, "Figures": "Listing of case B"
+# 01, "Figures": "Listing of case B"; 02, U1: "the sources line gains a third count"
 LISTING = b"""\
 code t/year g/s
 0152 0.000000 0.0000000
@@ -27,7 +27,7 @@ code t/year g/s
 2754 0.000000 0.0000000
 2908 0.000000 0.0000000
 2909 0.000000 0.0000000
-sources 1 0
+sources 1 0 0
 """
 
 
@@ -48,7 +48,7 @@ def example():
 def main():
     data = example()
     printed = slot_file.printed(data)
-    assert printed == LISTING, "the listing is not the one that 01 prints"
+    assert printed == LISTING, "the listing is not the one of the papers"
     sys.stdout.buffer.write({"stdin": data, "stdout": printed}[sys.argv[1]])
 
 

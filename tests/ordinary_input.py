@@ -47,10 +47,12 @@ def spread():
 
 
 def assert_spread(files):
-    """Sound ones and refused ones, by nearly all of the numbers."""
-    numbers = Counter(slot_file.answer(data).number for data in files)
+    """Sound ones, some with locomotives, and refused ones, by nearly all of the numbers."""
+    answers = [slot_file.answer(data) for data in files]
+    numbers = Counter(a.number for a in answers)
     assert numbers[0] >= 40 and sum(numbers.values()) - numbers[0] >= 40, numbers
-    assert len(numbers) >= 11, numbers
+    assert len(numbers) >= 12 and numbers[14] >= 1, numbers
+    assert sum(a.locomotives > 0 for a in answers) >= 5
 
 
 def in_pieces(program, dice, data):

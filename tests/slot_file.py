@@ -1,8 +1,9 @@
 """The slot file: what bytes of any length and content are answered.
 
 This is the part of the separate calculation that reads files. It is written from 01, the scope
-paper, alone: "The slot file", "Questions in order" and "Figures". Each function names the sentence
-that it renders. What a source gives is worked out by papers.py, in exact fractions.
+paper, alone: "The slot file", "Questions in order" and "Figures", with the changes of 02 (U1,
+locomotives). Each function names the sentence that it renders. What a source gives is worked out
+by papers.py, in exact fractions.
 """
 import struct
 from dataclasses import dataclass
@@ -10,18 +11,19 @@ from fractions import Fraction
 from functools import lru_cache
 
 import papers
-from papers import Aspiration, Coefficients, Group, Handling, Standing
+from papers import Aspiration, Coefficients, Group, Handling, Locomotive, Standing
 
 # "Slots of 64 bytes"; question 1: "from 64 to 65,536"
 SLOT = 64
 LONGEST = 65_536
 
 # Byte 2 of a slot: "Group (byte 2 = 1)", "Coefficients (byte 2 = 2)", "Store record (byte 2 = 3
-# handling, 4 standing, 5 aspiration)"
-GROUP, COEFFICIENTS, HANDLING, STANDING, ASPIRATION = 1, 2, 3, 4, 5
+# handling, 4 standing, 5 aspiration)"; 02, "Kind 6"
+GROUP, COEFFICIENTS, HANDLING, STANDING, ASPIRATION, LOCOMOTIVE = 1, 2, 3, 4, 5, 6
 GROUP_KINDS = (GROUP,)
 COEFFICIENT_KINDS = (COEFFICIENTS,)
 STORE_KINDS = (HANDLING, STANDING, ASPIRATION)
+LOCOMOTIVE_KINDS = (LOCOMOTIVE,)
 
 # The lines of the listing, in 01's order
 CODES = (152, 184, 301, 328, 330, 337, 2704, 2754, 2908, 2909)
@@ -36,6 +38,7 @@ class Answer:
     figures: tuple  # annual and peak of each of CODES
     groups: int
     stores: int
+    locomotives: int
 
 
 class Refused(Exception):
@@ -84,6 +87,11 @@ def first_group(header):
 def first_store(header):
     """"6..7 first store record"."""
     return two(header, 6)
+
+
+def first_locomotive(header):
+    """02, "Header bytes 32..33 become the first locomotive slot"."""
+    return two(header, 32)
 
 
 def temperatures(header):
@@ -200,6 +208,22 @@ def read_store(slot):
     return READ_STORE[slot[2]](slot)
 
 
+# Locomotive
+
+
+@lru_cache(maxsize=None)
+def read_locomotive(slot):
+    """02, "Kind 6 has 3 type ...; 4..13 five 16-bit time shares ..., idle to full power; 14..15
+    hours ...; 16 is 1 for over two years old, else 0; 17 zone"."""
+    return Locomotive(
+        slot[3],
+        *(two(slot, 4 + 2 * mode) for mode in range(5)),
+        hours=two(slot, 14),
+        old=slot[16],
+        zone=slot[17],
+    )
+
+
 # Question 9
 
 
@@ -214,6 +238,7 @@ NAMED = {
     HANDLING: named((0, 6), (8, 15), (20, 23)),
     STANDING: named((0, 6), (8, 14), (16, 17), (20, 23)),
     ASPIRATION: named((0, 5), (8, 19)),
+    LOCOMOTIVE: named((0, 17)),
 }
 
 IN_RANGE = {
@@ -222,6 +247,7 @@ IN_RANGE = {
     HANDLING: lambda slot: papers.handling_in_range(read_store(slot)),
     STANDING: lambda slot: papers.standing_in_range(read_store(slot)),
     ASPIRATION: lambda slot: papers.aspiration_in_range(read_store(slot)),
+    LOCOMOTIVE: lambda slot: papers.locomotive_in_range(read_locomotive(slot)),
 }
 
 
@@ -245,11 +271,11 @@ def ask_length(data):
 
 
 def ask_header(slots):
-    """Questions 2 to 5, of slot 0."""
+    """Questions 2 to 5, of slot 0. 02: "question 4 skips the two bytes" of the first locomotive."""
     header = slots[0]
     ask(two(header, 0) == 1, 2, 0)
     ask(two(header, 2) == len(slots), 3, 0)
-    ask(header[32:64] == bytes(32), 4, 0)
+    ask(header[34:64] == bytes(30), 4, 0)
     ask(all(-600 <= t <= 600 for t in temperatures(header)), 5, 0)
 
 
@@ -264,7 +290,8 @@ def ask_link(slots, holder, link):
 
 def ask_source(slots, holder, link, kinds, sources):
     """"At each nonzero link 6, 7, 8 and 9 are asked", for 7, 8 and 9 of "the slot asked about". The
-    slot numbers in sources are those met on this walk as a group or store record."""
+    slot numbers in sources are those met on this walk as a group or store record; 02, "question 7
+    includes locomotives"."""
     ask_link(slots, holder, link)
     ask(link not in sources, 7, link)
     ask(slots[link][2] in kinds, 8, link)
@@ -324,6 +351,21 @@ def walk_stores(slots, sources):
     return stores
 
 
+def walk_locomotives(slots, sources):
+    """02, "walked after the stores"; "14 when a locomotive's shares don't total 1,000, asked after
+    its 9", of the slot asked about."""
+    locomotives = []
+    holder, link = 0, first_locomotive(slots[0])
+    while link != 0:
+        ask_source(slots, holder, link, LOCOMOTIVE_KINDS, sources)
+        sources.add(link)
+        locomotive = read_locomotive(slots[link])
+        ask(papers.shares_are_whole(locomotive), 14, link)
+        locomotives.append(locomotive)
+        holder, link = link, following(slots[link])
+    return locomotives
+
+
 def ask_reached(slots, reached):
     """Question 12: "Is each slot from 1 up reached?" The slot is "the lowest unreached for 12"."""
     for number in range(1, len(slots)):
@@ -337,6 +379,7 @@ RULES = {
     Handling: papers.handling,
     Standing: papers.standing,
     Aspiration: papers.aspiration,
+    Locomotive: papers.locomotive,
 }
 
 
@@ -364,15 +407,18 @@ def figures(sources):
 
 
 def accepted(data):
-    """Questions 1 to 12 in order, then the figures and the counts; a no raises the refusal."""
+    """Questions 1 to 12, and 14, in order, then the figures and the counts; a no raises the
+    refusal."""
     ask_length(data)
     slots = [data[at : at + SLOT] for at in range(0, len(data), SLOT)]
     ask_header(slots)
     sources = set()
     groups, reached = walk_groups(slots, sources)
     stores = walk_stores(slots, sources)
+    locomotives = walk_locomotives(slots, sources)
     ask_reached(slots, sources | reached)
-    return Answer(0, 0, figures(groups + stores), len(groups), len(stores))
+    figured = figures(groups + stores + locomotives)
+    return Answer(0, 0, figured, len(groups), len(stores), len(locomotives))
 
 
 @lru_cache(maxsize=None)
@@ -381,7 +427,7 @@ def answer(data):
     try:
         return accepted(data)
     except Refused as no:
-        return Answer(no.number, no.slot, ((0, 0),) * len(CODES), 0, 0)
+        return Answer(no.number, no.slot, ((0, 0),) * len(CODES), 0, 0, 0)
 
 
 # The listing
@@ -394,11 +440,12 @@ def fixed(units, decimals):
 
 def listing(a):
     """"heading; code, tonnes, grams per second; then groups and store records. Each line ends in a
-    line feed"; "codes have four digits"."""
+    line feed"; "codes have four digits". 02: "the sources line gains a third count, the length of
+    the locomotive chain"."""
     lines = ["code t/year g/s"]
     for code, (annual, peak) in zip(CODES, a.figures):
         lines.append(f"{code:04} {fixed(annual, 6)} {fixed(peak, 7)}")
-    lines.append(f"sources {a.groups} {a.stores}")
+    lines.append(f"sources {a.groups} {a.stores} {a.locomotives}")
     return "".join(line + "\n" for line in lines).encode("ascii")
 
 
@@ -432,8 +479,8 @@ def pack(layout, *values):
     return struct.pack("<" + layout, *values).ljust(SLOT, b"\0")
 
 
-def header(count, group, store, months):
-    return pack("4H12h", 1, count, group, store, *months)
+def header(count, group, store, months, locomotive=0):
+    return pack("4H12hH", 1, count, group, store, *months, locomotive)
 
 
 def group_slot(g, after, coefficients):
@@ -476,3 +523,7 @@ PACK_STORE = {Handling: handling_slot, Standing: standing_slot, Aspiration: aspi
 
 def store_slot(r, after):
     return PACK_STORE[type(r)](r, after)
+
+
+def locomotive_slot(r, after):
+    return pack("HBB6HBB", after, LOCOMOTIVE, r.model, *r.shares(), r.hours, r.old, r.zone)
