@@ -1,4 +1,4 @@
-/* Calls the library by its header, on 01's surveyed examples and a slot file, as another tool would.
+/* Calls the library by its header, on 01's surveyed examples, a locomotive and a slot file, as another tool would.
 
        interface FILE LISTING
 
@@ -62,6 +62,19 @@ static void group(uint8_t flags, uint64_t annual, uint64_t peak, const char *wha
                            coefficients, TEZHEBUL_COEFFICIENTS, out, TEZHEBUL_GROUP_NUMBERS), "eleven months");
 }
 
+/* The TGM6 that tests/locomotives.py works out by hand: 2.3875236, 15.4592928 and 0.1240092 t; 4.13, 15.21 and 0.38 kg/h over 3.6. */
+static void locomotive(void)
+{
+    uint64_t out[TEZHEBUL_LOCOMOTIVE_NUMBERS];
+    expect(tezhebul_locomotive(1, 687, 201, 89, 15, 8, 3000, 1, 2, out, TEZHEBUL_LOCOMOTIVE_NUMBERS) && out[0] == 0, "TGM6");
+    expect_emission(out + 2, 337, 2387524, 11472222, "TGM6, CO");
+    expect_emission(out + 2 + TEZHEBUL_EMISSION_NUMBERS, 301, 15459293, 42250000, "TGM6, NO2");
+    expect_emission(out + 2 + 2 * TEZHEBUL_EMISSION_NUMBERS, 328, 124009, 1055556, "TGM6, soot");
+    expect(tezhebul_locomotive(1, 687, 201, 89, 15, 7, 3000, 1, 2, out, TEZHEBUL_LOCOMOTIVE_NUMBERS) && out[0] == 14 && out[2] == 0, "shares of 999");
+    expect(tezhebul_locomotive(1, 687, 201, 89, 15, 7, 3000, 1, 4, out, TEZHEBUL_LOCOMOTIVE_NUMBERS) && out[0] == 9, "shares of 999 in zone 4");
+    expect(!tezhebul_locomotive(1, 687, 201, 89, 15, 8, 3000, 1, 2, out, TEZHEBUL_LOCOMOTIVE_NUMBERS - 1) && out[0] == 9, "no room for a locomotive");
+}
+
 static size_t whole(const char *name, uint8_t *room)
 {
     FILE *file = fopen(name, "rb");
@@ -93,6 +106,7 @@ int main(int count, char **words)
     group(0, 24000, 177778, "B");
     group(TEZHEBUL_CONTROLLED, 20160, 146667, "C");
     group(TEZHEBUL_HEATED, 16800, 111111, "D");
+    locomotive();
     file(words[1], words[2]);
     puts("the library by its header: as it should be");
 }

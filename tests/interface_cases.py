@@ -9,12 +9,13 @@ must give is worked out from its comments by papers.py and slot_file.py.
 A case is a head of 44 bytes and its arguments, numbers little-endian, other bytes zero:
 
     0..31   label, ASCII, padded with spaces
-    32      function: 1 check, 2 answer, 3 list, 4 handling, 5 standing, 6 aspiration, 7 group
+    32      function: 1 check, 2 answer, 3 list, 4 handling, 5 standing, 6 aspiration, 7 group,
+            8 locomotive
     34..35  how many numbers are lent, of 40
     36..37  how many bytes are lent, of 600
     40..43  the length of the arguments
 
-The arguments of 1 to 3 are a file. Those of 4 to 7 are the numbers before the first slice, in the
+The arguments of 1 to 3 are a file. Those of 4 to 8 are the numbers before the first slice, in the
 header's order and widths; those of a group go on with the lengths of its four slices, a byte each,
 and then the slices, with room for one element more than each has to have. Of a case the program
 prints the label, what the function returns (1 for true, 0 for false) and all 40 numbers, which are
@@ -35,15 +36,17 @@ from typing import Optional
 
 import cases
 import file_edges
+import file_locomotives
 import file_mixes
 import inventory
+import locomotives
 import papers
 import slot_file
 from cases import DIESEL_FLEET, FLEET, Dice, edges, out_of_range
 from files import build
-from papers import Aspiration, Group, Handling, Standing
+from papers import Aspiration, Group, Handling, Locomotive, Standing
 
-FUNCTIONS = ("check", "answer", "list", "handling", "standing", "aspiration", "group")
+FUNCTIONS = ("check", "answer", "list", "handling", "standing", "aspiration", "group", "locomotive")
 
 # What the program lends at most, and what stands there beforehand
 MEMORY = [7_777] * 40
@@ -189,16 +192,16 @@ def memory_with(numbers, call):
 
 
 def answer_numbers(number, slot, a):
-    """"number and slot (0 and 0 of an accepted file), groups, store records, ten annual figures
-    ..., ten peak figures ..., by the codes"."""
+    """"number and slot (0 and 0 of an accepted file), groups, store records, locomotives, ten
+    annual figures ..., ten peak figures ..., by the codes"."""
     annual = [figure for figure, _ in a.figures]
     peak = [figure for _, figure in a.figures]
-    numbers = [number, slot, a.groups, a.stores] + annual + peak
+    numbers = [number, slot, a.groups, a.stores, a.locomotives] + annual + peak
     assert len(numbers) == NUMBERS["NUMBERS"]
     return numbers
 
 
-NOTHING = slot_file.Answer(0, 0, ((0, 0),) * NUMBERS["CODES"], 0, 0)
+NOTHING = slot_file.Answer(0, 0, ((0, 0),) * NUMBERS["CODES"], 0, 0, 0)
 
 
 def check_given(call):
@@ -240,7 +243,12 @@ def emission_numbers(e):
     return numbers
 
 
-RULES = {Handling: papers.handling, Standing: papers.standing, Aspiration: papers.aspiration}
+RULES = {
+    Handling: papers.handling,
+    Standing: papers.standing,
+    Aspiration: papers.aspiration,
+    Locomotive: papers.locomotive,
+}
 
 
 def rule_answer(call):
@@ -252,8 +260,11 @@ def rule_answer(call):
     return papers.group(call.source)
 
 
+SIZES = {"group": NUMBERS["GROUP_NUMBERS"], "locomotive": NUMBERS["LOCOMOTIVE_NUMBERS"]}
+
+
 def rule_size(call):
-    return NUMBERS["GROUP_NUMBERS" if call.function == "group" else "STORE_NUMBERS"]
+    return SIZES.get(call.function, NUMBERS["STORE_NUMBERS"])
 
 
 def rule_given(call):
@@ -344,14 +355,56 @@ def rooms(size):
     return (size + 3, size, size - 1, 0)
 
 
-def store_calls():
-    size, calls = NUMBERS["STORE_NUMBERS"], []
-    for function, sources in store_sources().items():
-        for at, (label, source) in enumerate(sources):
-            calls.append(Call(label, function, source, size + at % 4))
-        for label, source in (sources[0], sources[-1]):
-            calls += [Call(f"{label}, {n} lent", function, source, n) for n in rooms(size)]
+def source_calls(function, sources, size):
+    """Each of the sources; the first and the last with memory of several lengths too."""
+    calls = []
+    for at, (label, source) in enumerate(sources):
+        calls.append(Call(label, function, source, size + at % 4))
+    for label, source in (sources[0], sources[-1]):
+        calls += [Call(f"{label}, {n} lent", function, source, n) for n in rooms(size)]
     return calls
+
+
+def store_calls():
+    calls = []
+    for function, sources in store_sources().items():
+        calls += source_calls(function, sources, NUMBERS["STORE_NUMBERS"])
+    return calls
+
+
+# All numbers differ
+ENGINE = Locomotive(
+    model=3, idle=411, quarter=297, half=173, three_quarters=89, full=30, hours=2_718, old=0, zone=1
+)
+ENGINE_REFUSED = dict(
+    model=(0, 5),
+    idle=(1_001,),
+    quarter=(1_001,),
+    half=(1_001,),
+    three_quarters=(1_001,),
+    full=(1_001, 65_535),
+    hours=(8_785,),
+    old=(2,),
+    zone=(0, 4),
+)
+
+
+def locomotive_sources():
+    dice = Dice(2_122)
+    return (
+        [("locomotive", ENGINE)]
+        + [(case.label, case.source) for case, _ in locomotives.BY_HAND]
+        + [(f"some locomotive {i}", locomotives.any_locomotive(dice)) for i in range(4)]
+        + [("locomotive 0 hours", replace(ENGINE, hours=0)), ("largest", locomotives.LARGEST)]
+        + [("shares of 999", replace(ENGINE, full=29)), ("no shares", locomotives.with_shares(ENGINE))]
+        + [("shares of 999, zone 4", replace(ENGINE, full=29, zone=4))]
+        + refused("locomotive", ENGINE, ENGINE_REFUSED)
+        + [("shares of 1,001", replace(ENGINE, idle=412))]
+    )
+
+
+def locomotive_calls():
+    return source_calls("locomotive", locomotive_sources(), NUMBERS["LOCOMOTIVE_NUMBERS"])
 
 
 # All numbers of a diesel group differ: category 3, fuel 2, flags 1
@@ -447,12 +500,16 @@ def group_calls():
 STORES = [replace(HANDLED, dust=2), replace(STOOD, dust=3), replace(AIR, dust=1)]
 YARD = build([PETROL_GROUP, DIESEL_GROUP], STORES, dice=Dice(5)).data
 
+# With locomotives besides: all codes, and three counts that differ
+PLANT = build([PETROL_GROUP, DIESEL_GROUP], STORES, dice=Dice(6), locomotives=[ENGINE]).data
+
 
 def refused_files():
     """For each number a file, at a slot that is neither 0 nor the number where it can be so."""
     found = [("no bytes", b""), ("63 bytes", YARD[:63])]
-    faults = file_edges.lone_faults()
-    for number in range(2, 13):
+    uneven = [case for case in file_locomotives.lone_faults() if case.expected[0] == 14]
+    faults = file_edges.lone_faults() + uneven
+    for number in (*range(2, 13), 14):
         of_number = [case for case in faults if case.expected[0] == number]
         told_apart = [case for case in of_number if case.expected[1] not in (0, number)]
         for case in (told_apart or of_number)[-1:]:
@@ -466,9 +523,16 @@ def accepted_files():
     return found + [(f"valid {i}", file_mixes.any_file(dice).data) for i in range(3)]
 
 
+def files_with_locomotives():
+    dice = Dice(3)
+    valid = [file_mixes.any_file(dice, 1, 2, 4).data for _ in range(2)]
+    return [("three chains", PLANT)] + [(f"three chains {i}", data) for i, data in enumerate(valid)]
+
+
 def file_calls():
     size, calls = NUMBERS["NUMBERS"], []
-    for at, (label, data) in enumerate(accepted_files() + refused_files()):
+    every = accepted_files() + refused_files() + files_with_locomotives()
+    for at, (label, data) in enumerate(every):
         calls.append(Call(f"{label}, check", "check", data, at % 3))
         calls.append(Call(f"{label}, answer", "answer", data, size + at % 4))
         calls.append(Call(f"{label}, list", "list", data, size + at % 3, len(BUFFER) - at))
@@ -478,7 +542,7 @@ def file_calls():
 
 def lent_calls():
     size, exact, calls = NUMBERS["NUMBERS"], len(slot_file.printed(YARD)), []
-    bad = refused_files()[-1][1]
+    bad = dict(refused_files())["refused 12"]
     for n in rooms(size):
         calls.append(Call(f"answer, {n} lent", "answer", YARD, n))
         calls.append(Call(f"refused answer, {n} lent", "answer", bad, n))
@@ -489,18 +553,18 @@ def lent_calls():
 
 
 def all_calls():
-    return store_calls() + group_calls() + file_calls() + lent_calls()
+    return store_calls() + group_calls() + file_calls() + lent_calls() + locomotive_calls()
 
 
 # What the cases must reach
 
 
 def assert_codes():
-    """Every number of the answer differs from the others: groups, store records, and a figure for
-    each code in both columns."""
-    a = slot_file.answer(YARD)
+    """Every number of the answer differs from the others: groups, store records, locomotives, and a
+    figure for each code in both columns."""
+    a = slot_file.answer(PLANT)
     numbers = answer_numbers(a.number, a.slot, a)[2:]
-    assert len(set(numbers)) == len(numbers) == 2 + 2 * NUMBERS["CODES"] and 0 not in numbers
+    assert len(set(numbers)) == len(numbers) == 3 + 2 * NUMBERS["CODES"] and 0 not in numbers
 
 
 def with_fields(source, one, other):
@@ -567,13 +631,14 @@ def assert_slices():
 def assert_reached(every):
     counts = Counter(call.function for call in every)
     assert all(counts[function] >= 15 for function in FUNCTIONS), counts
-    assert 150 <= len(every) <= 250, len(every)
+    assert 150 <= len(every) <= 300, len(every)
     labels = Counter(call.label for call in every)
     assert max(labels.values()) == 1, labels.most_common(3)
     lists = Counter(given(call)[1][0] for call in every if call.function == "list")
-    assert all(lists[number] >= 1 for number in range(14)), lists
-    rules = Counter(rule_answer(call).verdict for call in every if call.function == "group")
-    assert min(rules[number] for number in (0, 9, 11)) >= 2, rules
+    assert all(lists[number] >= 1 for number in range(15)), lists
+    for function, barred in (("group", 11), ("locomotive", 14)):
+        rules = Counter(rule_answer(call).verdict for call in every if call.function == function)
+        assert min(rules[number] for number in (0, 9, barred)) >= 2, (function, rules)
 
 
 def main():
