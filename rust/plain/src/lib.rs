@@ -1,11 +1,12 @@
-//! The inventory of a slot file, worked out from the scope paper alone with 128-bit integers: a
-//! separate calculation to lay the library's answers beside. "01" in a comment is that paper, and
-//! words in quotes are its own.
+//! The inventory of a slot file, worked out from the papers alone with 128-bit integers: a separate
+//! calculation to lay the library's answers beside. In a comment "01" is the scope paper, "02" the
+//! change requests and "000" the methodology, and words in quotes are their own.
 
 #![forbid(unsafe_code)]
 
 mod codes;
 mod listing;
+mod locomotives;
 mod slots;
 mod stores;
 mod sums;
@@ -14,12 +15,13 @@ mod walk;
 
 pub use codes::CODES;
 pub use listing::LONGEST;
+pub use locomotives::{locomotive, Locomotive};
 pub use stores::{aspiration, handling, standing, Aspiration, Bulk, Handling, Standing};
 pub use sums::{Emission, ANNUAL_DENOMINATOR, PEAK_DENOMINATOR};
 pub use vehicles::{group, Coefficients, Group, Temperatures};
 
 use sums::Sums;
-use walk::{walk, Counts, Source};
+use walk::{walk, Source};
 
 /// The question that is answered no, and its slot.
 #[derive(Clone, Copy, Debug, PartialEq, Eq)]
@@ -33,29 +35,35 @@ pub struct Refusal {
 pub struct Answer {
     pub groups: u16,
     pub stores: u16,
+    pub locomotives: u16,
     /// Millionths of a tonne.
     pub annual: [u64; 10],
     /// Ten-millionths of a gram per second.
     pub peak: [u64; 10],
 }
 
-/// Questions 1 to 12, with nothing summed.
+/// Questions 1 to 12 and 14, with nothing summed.
 pub fn check(file: &[u8]) -> Result<(), Refusal> {
     walk(file, |_| ()).map(|_| ())
 }
 
-/// Questions 1 to 12, and the figures and counts of an accepted file.
+/// Questions 1 to 12 and 14, and the figures and counts of an accepted file.
 pub fn answer(file: &[u8]) -> Result<Answer, Refusal> {
     let mut sums = Sums::default();
-    let Counts { groups, stores } = walk(file, |source| match source {
+    let counts = walk(file, |source| match source {
         Source::Group(group, temperatures, coefficients) => {
             for emission in group.emissions(temperatures, coefficients) {
                 sums.add(&emission);
             }
         }
         Source::Store(store) => sums.add(&store.emission()),
+        Source::Locomotive(locomotive) => {
+            for emission in locomotive.emissions() {
+                sums.add(&emission);
+            }
+        }
     })?;
-    Ok(sums.figures(groups, stores))
+    Ok(sums.figures(counts))
 }
 
 /// Writes the listing to the start of the buffer and returns its length. "A refused listing has

@@ -1,4 +1,4 @@
-//! The listing and the refusal line (01, "Figures").
+//! The listing and the refusal line (01, "Figures"; 02, U1).
 
 use crate::codes::CODES;
 use crate::{Answer, Refusal};
@@ -11,7 +11,7 @@ const LONGEST_FIGURE: usize = 21;
 /// Bytes that any listing has room in.
 pub const LONGEST: usize = HEADING.len()
     + CODES.len() * ("0152 ".len() + LONGEST_FIGURE + 1 + LONGEST_FIGURE + 1)
-    + "sources 65535 65535\n".len();
+    + "sources 65535 65535 65535\n".len();
 
 /// A text of at most `LONGEST` bytes.
 pub struct Text {
@@ -56,10 +56,10 @@ impl Text {
         self.push(&digits[start..]);
     }
 
-    /// A word and two whole numbers, "parted by spaces".
-    fn push_line(&mut self, word: &[u8], numbers: [u16; 2]) {
+    /// A word and whole numbers, "parted by spaces".
+    fn push_line(&mut self, word: &[u8], numbers: &[u16]) {
         self.push(word);
-        for number in numbers {
+        for &number in numbers {
             self.push(b" ");
             self.push_number(u64::from(number), 0);
         }
@@ -67,7 +67,8 @@ impl Text {
     }
 }
 
-/// "heading; code, tonnes, grams per second; then groups and store records"
+/// "heading; code, tonnes, grams per second; then groups and store records", and by 02 "the sources
+/// line gains a third count, the length of the locomotive chain".
 pub fn listing(answer: &Answer) -> Text {
     let mut text = Text::new();
     text.push(HEADING);
@@ -79,13 +80,14 @@ pub fn listing(answer: &Answer) -> Text {
         text.push_number(answer.peak[place], 7);
         text.push(b"\n");
     }
-    text.push_line(b"sources", [answer.groups, answer.stores]);
+    let counts = [answer.groups, answer.stores, answer.locomotives];
+    text.push_line(b"sources", &counts);
     text
 }
 
 /// "`refused`, number and slot, parted by spaces"
 pub fn refusal_line(refusal: Refusal) -> Text {
     let mut text = Text::new();
-    text.push_line(b"refused", [u16::from(refusal.number), refusal.slot]);
+    text.push_line(b"refused", &[u16::from(refusal.number), refusal.slot]);
     text
 }

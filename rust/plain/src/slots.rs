@@ -1,5 +1,6 @@
-//! Reading the fields of a slot (01, "The slot file").
+//! Reading the fields of a slot (01, "The slot file"; 02, U1).
 
+use crate::locomotives::Locomotive;
 use crate::stores::{Aspiration, Bulk, Handling, Standing, Store};
 use crate::vehicles::{Coefficients, Group, Temperatures};
 
@@ -59,9 +60,15 @@ pub fn temperatures(slot: &Slot) -> Temperatures {
     })
 }
 
-/// "Are bytes 32..63 of slot 0 zero?", and the same bytes of a coefficient slot.
-pub fn second_half_zero(slot: &Slot) -> bool {
-    zero(&slot[32..])
+/// Slot 0, "32..33 become the first locomotive slot"
+pub fn first_locomotive(slot: &Slot) -> u16 {
+    number2(slot, 32)
+}
+
+/// "Are bytes 32..63 of slot 0 zero?", where "question 4 skips the two bytes" of the first
+/// locomotive slot.
+pub fn head_rest_zero(slot: &Slot) -> bool {
+    zero(&slot[34..])
 }
 
 /// "each slot's next index (0..1)"
@@ -69,7 +76,7 @@ pub fn next(slot: &Slot) -> u16 {
     number2(slot, 0)
 }
 
-/// Byte 2: 1 group, 2 coefficients, 3 handling, 4 standing, 5 aspiration.
+/// Byte 2: 1 group, 2 coefficients, 3 handling, 4 standing, 5 aspiration, 6 locomotive.
 pub fn kind(slot: &Slot) -> u8 {
     slot[2]
 }
@@ -113,6 +120,11 @@ pub fn coefficients(slot: &Slot) -> Coefficients {
         run: std::array::from_fn(|period| number4(slot, 16 + 4 * period)),
         idle: number4(slot, 28),
     }
+}
+
+/// "Bytes not named are zero", of a coefficient slot.
+pub fn coefficients_rest_zero(slot: &Slot) -> bool {
+    zero(&slot[32..])
 }
 
 /// "Store record (byte 2 = 3 handling, 4 standing, 5 aspiration)", or none for another kind.
@@ -176,4 +188,20 @@ pub fn store_rest_zero(slot: &Slot, store: &Store) -> bool {
         }
         Store::Aspiration(_) => zero(&slot[6..8]) && zero(&slot[20..]),
     }
+}
+
+/// "Kind 6 has 3 type", "4..13 five 16-bit time shares", "14..15 hours", 16 the age mark, "17 zone".
+pub fn locomotive(slot: &Slot) -> Locomotive {
+    Locomotive {
+        model: byte(slot, 3),
+        shares: std::array::from_fn(|mode| wide2(slot, 4 + 2 * mode)),
+        hours: wide2(slot, 14),
+        old: byte(slot, 16),
+        zone: byte(slot, 17),
+    }
+}
+
+/// "Bytes not named are zero", of a locomotive.
+pub fn locomotive_rest_zero(slot: &Slot) -> bool {
+    zero(&slot[18..])
 }

@@ -1,6 +1,7 @@
 //! Exact sums and their figures (01, "Figures").
 
 use crate::codes::CODES;
+use crate::walk::Counts;
 use crate::Answer;
 
 /// Exact units in a tonne: every annual term of the rules is a whole number of them.
@@ -41,10 +42,11 @@ impl Sums {
     }
 
     /// "Rounding happens once, after all sources are summed."
-    pub fn figures(&self, groups: u16, stores: u16) -> Answer {
+    pub fn figures(&self, counts: Counts) -> Answer {
         Answer {
-            groups,
-            stores,
+            groups: counts.groups,
+            stores: counts.stores,
+            locomotives: counts.locomotives,
             annual: self.annual.map(|sum| figure(sum, ANNUAL_UNIT)),
             peak: self.peak.map(|sum| figure(sum, PEAK_UNIT)),
         }

@@ -1,5 +1,6 @@
-//! The walk over a file: questions 1 to 12 (01, "Questions in order").
+//! The walk over a file: questions 1 to 12 and 14 (01, "Questions in order"; 02, U1).
 
+use crate::locomotives::Locomotive;
 use crate::slots::{self, Slot, SLOT};
 use crate::stores::Store;
 use crate::vehicles::{temperatures_in_range, Coefficients, Group, Temperatures};
@@ -8,20 +9,23 @@ use crate::Refusal;
 /// A file has at most 65,536 bytes.
 const MOST_SLOTS: usize = 65_536 / SLOT;
 
-/// "A source is a group or store record on its chain."
+/// "A source is a group or store record on its chain", and so is a locomotive.
 pub enum Source<'a> {
     Group(&'a Group, &'a Temperatures, &'a [Coefficients; 6]),
     Store(&'a Store),
+    Locomotive(&'a Locomotive),
 }
 
 /// How many sources an accepted file has.
 pub struct Counts {
     pub groups: u16,
     pub stores: u16,
+    pub locomotives: u16,
 }
 
-/// "The walk takes the group chain, then the store chain." Each source goes to `take` once all its
-/// questions are answered yes; the file may still be refused after that.
+/// "The walk takes the group chain, then the store chain"; the locomotives are "walked after the
+/// stores". Each source goes to `take` once all its questions are answered yes; the file may still
+/// be refused after that.
 pub fn walk(file: &[u8], mut take: impl FnMut(Source)) -> Result<Counts, Refusal> {
     let (slots, temperatures) = head(file)?;
     let mut walk = Walk {
@@ -31,8 +35,13 @@ pub fn walk(file: &[u8], mut take: impl FnMut(Source)) -> Result<Counts, Refusal
     };
     let groups = walk.groups(&temperatures, &mut take)?;
     let stores = walk.stores(&mut take)?;
+    let locomotives = walk.locomotives(&mut take)?;
     walk.all_reached()?;
-    Ok(Counts { groups, stores })
+    Ok(Counts {
+        groups,
+        stores,
+        locomotives,
+    })
 }
 
 fn refuse<T>(number: u8, slot: u16) -> Result<T, Refusal> {
@@ -52,7 +61,7 @@ fn head(file: &[u8]) -> Result<(&[Slot], Temperatures), Refusal> {
     if usize::from(slots::count(first)) != slots.len() {
         return refuse(3, 0);
     }
-    if !slots::second_half_zero(first) {
+    if !slots::head_rest_zero(first) {
         return refuse(4, 0);
     }
     let temperatures = slots::temperatures(first);
@@ -64,7 +73,7 @@ fn head(file: &[u8]) -> Result<(&[Slot], Temperatures), Refusal> {
 
 struct Walk<'a> {
     slots: &'a [Slot],
-    /// Slots met on this walk as a group or store record.
+    /// Slots met on this walk as a group, store record or locomotive.
     source: [bool; MOST_SLOTS],
     /// Slots met on this walk.
     reached: [bool; MOST_SLOTS],
@@ -138,7 +147,7 @@ impl<'a> Walk<'a> {
                 return refuse(8, link);
             }
             *coefficients = slots::coefficients(slot);
-            if !coefficients.in_range() || !slots::second_half_zero(slot) {
+            if !coefficients.in_range() || !slots::coefficients_rest_zero(slot) {
                 return refuse(9, link);
             }
             if slots::pollutant(slot) != pollutant {
@@ -167,6 +176,31 @@ impl<'a> Walk<'a> {
                 return refuse(9, link);
             }
             take(Source::Store(&store));
+            count += 1;
+            holder = link;
+            link = slots::next(slot);
+        }
+        Ok(count)
+    }
+
+    /// "At each nonzero link 6, 7, 8 and 9 are asked", then 14, "asked after its 9".
+    fn locomotives(&mut self, take: &mut impl FnMut(Source)) -> Result<u16, Refusal> {
+        let mut count = 0;
+        let mut holder = 0;
+        let mut link = slots::first_locomotive(&self.slots[0]);
+        while link != 0 {
+            let slot = self.follow_source(holder, link)?;
+            if slots::kind(slot) != 6 {
+                return refuse(8, link);
+            }
+            let locomotive = slots::locomotive(slot);
+            if !locomotive.in_range() || !slots::locomotive_rest_zero(slot) {
+                return refuse(9, link);
+            }
+            if !locomotive.shares_total() {
+                return refuse(14, link);
+            }
+            take(Source::Locomotive(&locomotive));
             count += 1;
             holder = link;
             link = slots::next(slot);
