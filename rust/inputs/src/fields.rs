@@ -11,6 +11,7 @@ pub const COEFFICIENTS: u8 = 2;
 pub const HANDLING: u8 = 3;
 pub const STANDING: u8 = 4;
 pub const ASPIRATION: u8 = 5;
+pub const LOCOMOTIVE: u8 = 6;
 
 /// A field of `width` bytes at a place in the slot, from `low` to `high`; `edges` are the last
 /// values of the bands that a table has within the range.
@@ -115,6 +116,27 @@ const ASPIRATION_FIELDS: [Field; 6] = [
     field(18, 2, 0, 8_784),
 ];
 
+/// Thousandths of the time in each mode, 1,000 in all.
+pub const SHARES: [Field; 5] = [
+    field(4, 2, 0, 1_000),
+    field(6, 2, 0, 1_000),
+    field(8, 2, 0, 1_000),
+    field(10, 2, 0, 1_000),
+    field(12, 2, 0, 1_000),
+];
+
+const LOCOMOTIVE_FIELDS: [Field; 9] = [
+    field(3, 1, 1, 4),
+    SHARES[0],
+    SHARES[1],
+    SHARES[2],
+    SHARES[3],
+    SHARES[4],
+    field(14, 2, 0, 8_784),
+    field(16, 1, 0, 1),
+    field(17, 1, 1, 3),
+];
+
 /// The fields of a kind with a range of their own: no links, no pollutant, no N'.
 pub fn fields(kind: u8) -> &'static [Field] {
     match kind {
@@ -123,6 +145,7 @@ pub fn fields(kind: u8) -> &'static [Field] {
         HANDLING => &HANDLING_FIELDS,
         STANDING => &STANDING_FIELDS,
         ASPIRATION => &ASPIRATION_FIELDS,
+        LOCOMOTIVE => &LOCOMOTIVE_FIELDS,
         _ => &[],
     }
 }
@@ -133,6 +156,7 @@ pub fn unnamed(kind: u8) -> impl Iterator<Item = usize> {
         GROUP => 36,
         COEFFICIENTS => 32,
         HANDLING | STANDING => 24,
+        LOCOMOTIVE => 18,
         _ => 20,
     };
     let between: &[usize] = match kind {

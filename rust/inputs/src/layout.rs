@@ -10,6 +10,7 @@ pub struct Layout {
     pub groups: Vec<u16>,
     pub coefficients: Vec<u16>,
     pub stores: Vec<u16>,
+    pub locomotives: Vec<u16>,
 }
 
 /// A coefficient slot on the way to a file: its row, and the next one's place in the list.
@@ -24,11 +25,12 @@ struct Chains {
     starts: Vec<usize>,
 }
 
-/// The order of both chains, and the places of all slots but slot 0: those of the groups, of the
-/// store records, of the coefficients.
+/// The order of the three chains, and the places of all slots but slot 0: those of the groups, of
+/// the store records, of the locomotives, of the coefficients.
 struct Order {
     groups: Vec<usize>,
     stores: Vec<usize>,
+    locomotives: Vec<usize>,
     places: Vec<u16>,
 }
 
@@ -58,12 +60,14 @@ pub fn lay_out_rows_once(random: &mut Random, inventory: &Inventory) -> Layout {
 
 fn written(inventory: &Inventory, order: &Order, chains: &Chains) -> Layout {
     let (group_places, rest) = order.places.split_at(order.groups.len());
-    let (store_places, coefficient_places) = rest.split_at(order.stores.len());
+    let (store_places, rest) = rest.split_at(order.stores.len());
+    let (locomotive_places, coefficient_places) = rest.split_at(order.locomotives.len());
     let mut layout = Layout {
         file: vec![0; (1 + order.places.len()) * SLOT],
         groups: group_places.to_vec(),
         coefficients: coefficient_places.to_vec(),
         stores: store_places.to_vec(),
+        locomotives: locomotive_places.to_vec(),
     };
     layout.write_head(inventory);
     layout.write_chains(chains);
@@ -71,7 +75,11 @@ fn written(inventory: &Inventory, order: &Order, chains: &Chains) -> Layout {
         layout.write_group(place, &inventory.groups[group].slot, chains.starts[place]);
     }
     for (place, &store) in order.stores.iter().enumerate() {
-        layout.write_store(place, &inventory.stores[store]);
+        layout.write_source(store_places, place, &inventory.stores[store]);
+    }
+    for (place, &locomotive) in order.locomotives.iter().enumerate() {
+        let source = &inventory.locomotives[locomotive];
+        layout.write_source(locomotive_places, place, source);
     }
     layout
 }
@@ -121,6 +129,7 @@ impl Order {
         Order {
             groups: (0..inventory.groups.len()).collect(),
             stores: (0..inventory.stores.len()).collect(),
+            locomotives: (0..inventory.locomotives.len()).collect(),
             places: Vec::new(),
         }
     }
@@ -128,10 +137,12 @@ impl Order {
     fn shuffle_chains(&mut self, random: &mut Random) {
         random.shuffle(&mut self.groups);
         random.shuffle(&mut self.stores);
+        random.shuffle(&mut self.locomotives);
     }
 
     fn add_places(&mut self, coefficients: usize) {
-        let count = 1 + self.groups.len() + self.stores.len() + coefficients;
+        let sources = self.groups.len() + self.stores.len() + self.locomotives.len();
+        let count = 1 + sources + coefficients;
         self.places = (1..count as u16).collect();
     }
 }
@@ -166,6 +177,9 @@ impl Chains {
     }
 }
 
+/// Where slot 0 has the first link of each chain, in the order of the walk.
+pub const HEADS: [usize; 3] = [4, 6, 32];
+
 /// The place that a chain's link has, or zero for its end.
 fn link(places: &[u16], index: usize) -> u32 {
     places.get(index).copied().map_or(0, u32::from)
@@ -177,6 +191,11 @@ impl Layout {
         &mut self.file[start..start + SLOT]
     }
 
+    /// The slots of each chain, in the order of `HEADS`.
+    pub fn chains(&self) -> [&[u16]; 3] {
+        [&self.groups, &self.stores, &self.locomotives]
+    }
+
     /// Writes the count of slots that the file has.
     pub fn write_count(&mut self) {
         let count = (self.file.len() / SLOT) as u32;
@@ -185,13 +204,12 @@ impl Layout {
 
     fn write_head(&mut self, inventory: &Inventory) {
         self.write_count();
-        let first_group = link(&self.groups, 0);
-        let first_store = link(&self.stores, 0);
-        let head = self.slot(0);
-        write(head, 0, 2, 1);
-        write(head, 4, 2, first_group);
-        write(head, 6, 2, first_store);
-        head[8..32].copy_from_slice(&inventory.temperatures);
+        write(&mut self.file, 0, 2, 1);
+        let firsts = self.chains().map(|chain| link(chain, 0));
+        for (at, first) in HEADS.into_iter().zip(firsts) {
+            write(&mut self.file, at, 2, first);
+        }
+        self.file[8..32].copy_from_slice(&inventory.temperatures);
     }
 
     fn write_chains(&mut self, chains: &Chains) {
@@ -212,10 +230,10 @@ impl Layout {
         write(slot, 34, 2, first);
     }
 
-    fn write_store(&mut self, index: usize, store: &Slot) {
-        let next = link(&self.stores, index + 1);
-        let slot = self.slot(self.stores[index]);
-        slot.copy_from_slice(store);
-        write(slot, 0, 2, next);
+    /// A store record or locomotive, the one at `index` of its chain.
+    fn write_source(&mut self, chain: &[u16], index: usize, source: &Slot) {
+        let slot = self.slot(chain[index]);
+        slot.copy_from_slice(source);
+        write(slot, 0, 2, link(chain, index + 1));
     }
 }

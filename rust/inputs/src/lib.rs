@@ -5,6 +5,7 @@
 mod damage;
 mod fields;
 mod layout;
+mod locomotives;
 mod plant;
 mod random;
 mod sources;

@@ -5,6 +5,7 @@ use crate::fields::{
     VEHICLES,
 };
 use crate::layout::lay_out_rows_once;
+use crate::locomotives::locomotive;
 use crate::random::Random;
 use crate::sources::{drawn, zero_for, Group, Inventory, Rows};
 
@@ -15,12 +16,13 @@ pub struct Size {
     pub groups: usize,
     pub sets: usize,
     pub stores: usize,
+    pub locomotives: usize,
 }
 
 impl Size {
     /// Slots of the file: each set has six.
     pub fn slots(&self) -> usize {
-        1 + self.groups + 6 * self.sets + self.stores
+        1 + self.groups + 6 * self.sets + self.stores + self.locomotives
     }
 }
 
@@ -35,6 +37,7 @@ pub fn plant(seed: u64, size: Size) -> Vec<u8> {
         groups: Vec::new(),
         rows: Vec::new(),
         stores: Vec::new(),
+        locomotives: Vec::new(),
     };
     for index in 0..size.groups {
         add_group(&mut random, &mut inventory, index, size.sets);
@@ -43,6 +46,10 @@ pub fn plant(seed: u64, size: Size) -> Vec<u8> {
         let kind = [HANDLING, STANDING, ASPIRATION][index % 3];
         let slot = drawn(&mut random, kind, Style::Mixed);
         inventory.stores.push(slot);
+    }
+    for _ in 0..size.locomotives {
+        let slot = locomotive(&mut random, Style::Mixed);
+        inventory.locomotives.push(slot);
     }
     lay_out_rows_once(&mut random, &inventory).file
 }
@@ -93,12 +100,13 @@ fn set(random: &mut Random, fuel: u32) -> Rows {
 #[cfg(test)]
 mod tests {
     use super::*;
-    use crate::fields::read2;
+    use crate::fields::{read2, LOCOMOTIVE};
 
     const SIZE: Size = Size {
         groups: 9,
         sets: 5,
-        stores: 24,
+        stores: 21,
+        locomotives: 3,
     };
 
     #[test]
@@ -108,8 +116,15 @@ mod tests {
         assert_eq!(file.len(), 64 * SLOT);
         assert_eq!(read2(&file, 2), 64);
         let count = |kind| file.chunks(SLOT).skip(1).filter(|s| s[2] == kind).count();
-        let kinds = [GROUP, COEFFICIENTS, HANDLING, STANDING, ASPIRATION];
-        assert_eq!(kinds.map(count), [9, 30, 8, 8, 8]);
+        let kinds = [
+            GROUP,
+            COEFFICIENTS,
+            HANDLING,
+            STANDING,
+            ASPIRATION,
+            LOCOMOTIVE,
+        ];
+        assert_eq!(kinds.map(count), [9, 30, 7, 7, 7, 3]);
     }
 
     #[test]

@@ -4,6 +4,7 @@ use crate::fields::{
     fields, write, Slot, Style, ASPIRATION, COEFFICIENTS, GROUP, HANDLING, K6, LEAVING, SLOT,
     STANDING, VEHICLES,
 };
+use crate::locomotives::locomotive;
 use crate::random::Random;
 
 /// The coefficient slots of the six pollutants, without links.
@@ -23,6 +24,7 @@ pub struct Inventory {
     pub groups: Vec<Group>,
     pub rows: Vec<Rows>,
     pub stores: Vec<Slot>,
+    pub locomotives: Vec<Slot>,
 }
 
 pub const MOST_SLOTS: usize = 1_024;
@@ -39,18 +41,20 @@ impl Inventory {
             1..=8 => {
                 let groups = random.below(60);
                 let stores = random.below(200);
-                some(random, groups, stores)
+                let locomotives = random.below(100);
+                some(random, groups, stores, locomotives)
             }
             _ => {
                 let groups = few(random, 8);
                 let stores = few(random, 20);
-                some(random, groups, stores)
+                let locomotives = few(random, 8);
+                some(random, groups, stores, locomotives)
             }
         }
     }
 
     pub fn least_slots(&self) -> usize {
-        1 + self.groups.len() + self.stores.len() + 6 * self.rows.len()
+        1 + self.groups.len() + self.stores.len() + self.locomotives.len() + 6 * self.rows.len()
     }
 }
 
@@ -73,19 +77,23 @@ fn draw_style(random: &mut Random) -> Style {
     }
 }
 
-fn some(random: &mut Random, groups: usize, stores: usize) -> Inventory {
+fn some(random: &mut Random, groups: usize, stores: usize, locomotives: usize) -> Inventory {
     let style = draw_style(random);
     let mut inventory = Inventory {
         temperatures: temperatures(random),
         groups: Vec::new(),
         rows: Vec::new(),
         stores: Vec::new(),
+        locomotives: Vec::new(),
     };
     for _ in 0..groups {
         add_group(random, &mut inventory, style);
     }
     for _ in 0..stores {
         add_store(random, &mut inventory, style);
+    }
+    for _ in 0..locomotives {
+        add_locomotive(random, &mut inventory, style);
     }
     inventory
 }
@@ -97,24 +105,47 @@ fn full(random: &mut Random) -> Inventory {
     } else {
         Style::Largest
     };
-    let mut inventory = some(random, 0, 0);
+    let mut inventory = some(random, 0, 0, 0);
     for _ in 0..random.below(3) * random.below(50) {
         add_group(random, &mut inventory, style);
     }
     for _ in 0..1 + random.below(2) * random.below(300) {
         add_store(random, &mut inventory, style);
     }
-    let groups = inventory.groups.len().min(random.below(2) * MOST_SLOTS);
+    for _ in 0..random.below(2) * random.below(30) {
+        add_locomotive(random, &mut inventory, style);
+    }
+    fill(random, &mut inventory);
+    inventory
+}
+
+/// Sources of one chain again, until the file has no slot left.
+fn fill(random: &mut Random, inventory: &mut Inventory) {
+    let chain = random.below(3);
     while inventory.least_slots() < MOST_SLOTS {
-        if groups > 0 {
-            let again = inventory.groups[random.below(groups)];
-            inventory.groups.push(again);
+        if chain == 0 && !inventory.groups.is_empty() {
+            repeat(random, &mut inventory.groups);
+        } else if chain == 1 && !inventory.locomotives.is_empty() {
+            repeat(random, &mut inventory.locomotives);
         } else {
-            let again = random.pick(&inventory.stores);
-            inventory.stores.push(again);
+            repeat(random, &mut inventory.stores);
         }
     }
-    inventory
+}
+
+/// One of them again; there is at least one.
+fn repeat<T: Copy>(random: &mut Random, sources: &mut Vec<T>) {
+    let again = random.pick(sources);
+    sources.push(again);
+}
+
+/// Whether the next source is equal to an earlier one.
+fn repeated<T: Copy>(random: &mut Random, sources: &mut Vec<T>) -> bool {
+    let again = !sources.is_empty() && random.once_in(12);
+    if again {
+        repeat(random, sources);
+    }
+    again
 }
 
 /// Months around a band edge, at an end of the range, or anywhere.
@@ -142,7 +173,8 @@ fn temperature(random: &mut Random) -> i16 {
     }
 }
 
-/// A slot of the kind with its fields drawn, without links, pollutant and N'.
+/// A slot of the kind with its fields drawn, without links, pollutant and N', and with shares of any
+/// total.
 pub fn drawn(random: &mut Random, kind: u8, style: Style) -> Slot {
     let mut slot = [0; SLOT];
     slot[2] = kind;
@@ -153,9 +185,7 @@ pub fn drawn(random: &mut Random, kind: u8, style: Style) -> Slot {
 }
 
 fn add_store(random: &mut Random, inventory: &mut Inventory, style: Style) {
-    if !inventory.stores.is_empty() && random.once_in(12) {
-        let again = random.pick(&inventory.stores);
-        inventory.stores.push(again);
+    if repeated(random, &mut inventory.stores) {
         return;
     }
     let kind = random.pick(&[HANDLING, STANDING, ASPIRATION]);
@@ -166,10 +196,15 @@ fn add_store(random: &mut Random, inventory: &mut Inventory, style: Style) {
     inventory.stores.push(slot);
 }
 
+fn add_locomotive(random: &mut Random, inventory: &mut Inventory, style: Style) {
+    if !repeated(random, &mut inventory.locomotives) {
+        let slot = locomotive(random, style);
+        inventory.locomotives.push(slot);
+    }
+}
+
 fn add_group(random: &mut Random, inventory: &mut Inventory, style: Style) {
-    if !inventory.groups.is_empty() && random.once_in(12) {
-        let again = random.pick(&inventory.groups);
-        inventory.groups.push(again);
+    if repeated(random, &mut inventory.groups) {
         return;
     }
     let mut slot = drawn(random, GROUP, style);
