@@ -98,7 +98,7 @@ fn some(random: &mut Random, groups: usize, stores: usize, locomotives: usize) -
     inventory
 }
 
-/// 1,024 slots: some sources, and then more that are equal to one of them.
+/// 1,024 slots: some sources, of at most 1,016, and then more that are equal to one of them.
 fn full(random: &mut Random) -> Inventory {
     let style = if random.once_in(4) {
         Style::Mixed
