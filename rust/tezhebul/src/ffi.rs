@@ -3,13 +3,13 @@
 //! Each call hands over slices only, so no pointer is null and the memory behind it is the
 //! caller's for the length of the call, which is what the header asks.
 
-use crate::rules::{Aspiration, Bulk, Group, Handling, Standing};
+use crate::rules::{Aspiration, Bulk, Group, Handling, Locomotive, Standing};
 
 /// TEZHEBUL_CODES
 pub const CODES: usize = 10;
 
 /// TEZHEBUL_NUMBERS
-pub const NUMBERS: usize = 4 + 2 * CODES;
+pub const NUMBERS: usize = 5 + 2 * CODES;
 
 /// TEZHEBUL_EMISSION_NUMBERS
 pub const EMISSION_NUMBERS: usize = 5;
@@ -22,6 +22,12 @@ pub const EMISSIONS: usize = 6;
 
 /// TEZHEBUL_GROUP_NUMBERS
 pub const GROUP_NUMBERS: usize = 2 + EMISSIONS * EMISSION_NUMBERS;
+
+/// TEZHEBUL_LOCOMOTIVE_EMISSIONS
+pub const LOCOMOTIVE_EMISSIONS: usize = 3;
+
+/// TEZHEBUL_LOCOMOTIVE_NUMBERS
+pub const LOCOMOTIVE_NUMBERS: usize = 2 + LOCOMOTIVE_EMISSIONS * EMISSION_NUMBERS;
 
 /// TEZHEBUL_POLLUTANTS
 pub const POLLUTANTS: usize = 6;
@@ -100,6 +106,19 @@ extern "C" {
         temperatures_length: usize,
         coefficients: *const u32,
         coefficients_length: usize,
+        out: *mut u64,
+        out_length: usize,
+    ) -> bool;
+    fn tezhebul_locomotive(
+        model: u8,
+        idle: u16,
+        quarter: u16,
+        half: u16,
+        three_quarters: u16,
+        full: u16,
+        hours: u16,
+        old: u8,
+        zone: u8,
         out: *mut u64,
         out_length: usize,
     ) -> bool;
@@ -191,6 +210,27 @@ pub fn group(source: &Group, temperatures: &[i16], coefficients: &[u32], out: &m
     }
 }
 
+/// False, and nothing written, where `out` has room for fewer than `LOCOMOTIVE_NUMBERS`.
+pub fn locomotive(source: &Locomotive, out: &mut [u64]) -> bool {
+    let [idle, quarter, half, three_quarters, full] = source.shares;
+    // SAFETY: as in `bulk`.
+    unsafe {
+        tezhebul_locomotive(
+            source.model,
+            idle,
+            quarter,
+            half,
+            three_quarters,
+            full,
+            source.hours,
+            source.old,
+            source.zone,
+            out.as_mut_ptr(),
+            out.len(),
+        )
+    }
+}
+
 /// `tezhebul_handling`, whose last value is the drop, or `tezhebul_standing`, whose last is K6.
 type BulkRule<Last> =
     unsafe extern "C" fn(u8, u16, u8, u16, u16, u16, u8, u32, Last, *mut u64, usize) -> bool;
@@ -249,7 +289,7 @@ mod tests {
         let mut buffer = [b'~'; crate::LISTING_MOST];
         let mut out = [7; NUMBERS - 1];
         let length = list(&no_sources(), &mut buffer, &mut out);
-        assert!(buffer[..length].ends_with(b"\nsources 0 0\n"));
+        assert!(buffer[..length].ends_with(b"\nsources 0 0 0\n"));
         assert_eq!(buffer[length..], [b'~'; crate::LISTING_MOST][length..]);
         assert_eq!(out, [7; NUMBERS - 1]);
     }
@@ -311,5 +351,33 @@ mod tests {
             assert_eq!(given, [code, 0, 0, 0, 0]);
         }
         assert_eq!(out[GROUP_NUMBERS], 7);
+    }
+
+    /// All the time at 75 % of the power; a kilogram an hour is 1/3.6 g/s.
+    const TGM4: Locomotive = Locomotive {
+        model: 2,
+        shares: [0, 0, 0, 1_000, 0],
+        hours: 10,
+        old: 0,
+        zone: 2,
+    };
+
+    #[test]
+    fn too_few_numbers_of_a_locomotive() {
+        let mut out = [7; LOCOMOTIVE_NUMBERS - 1];
+        assert!(!locomotive(&TGM4, &mut out));
+        assert_eq!(out, [7; LOCOMOTIVE_NUMBERS - 1]);
+        assert!(!locomotive(&TGM4, &mut []));
+    }
+
+    #[test]
+    fn only_the_first_numbers_of_a_locomotive() {
+        let mut out = [7; LOCOMOTIVE_NUMBERS + 1];
+        assert!(locomotive(&TGM4, &mut out));
+        assert_eq!(out[..2], [0; 2]);
+        assert_eq!(out[2..7], [337, 8_960, 0, 3_555_555, 40_000_000]);
+        assert_eq!(out[7..12], [301, 42_000, 0, 16_666_666, 48_000_000]);
+        assert_eq!(out[12..17], [328, 1_540, 0, 611_111, 8_000_000]);
+        assert_eq!(out[LOCOMOTIVE_NUMBERS], 7);
     }
 }

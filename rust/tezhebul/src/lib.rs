@@ -1,5 +1,5 @@
-//! Tezhebul for Rust: what the vehicle yards, bulk stores and dust fans of a boiler house give to
-//! the air, exactly, by the verified library.
+//! Tezhebul for Rust: what the vehicle yards, bulk stores, dust fans and shunting locomotives of a
+//! boiler house give to the air, exactly, by the verified library.
 //!
 //! Of an inventory slot file in memory: [`check`] says whether it is accepted, [`answer`] gives the
 //! figures, [`list`] writes the listing.
@@ -13,14 +13,14 @@
 //!
 //! let mut buffer = [0; tezhebul::LISTING_MOST];
 //! let length = tezhebul::list(&file, &mut buffer).expect("the file is accepted");
-//! assert!(buffer[..length].ends_with(b"\nsources 0 0\n"));
+//! assert!(buffer[..length].ends_with(b"\nsources 0 0 0\n"));
 //!
 //! file[2] = 2;
 //! assert_eq!(tezhebul::check(&file), Err(tezhebul::Refusal { number: 3, slot: 0 }));
 //! ```
 //!
 //! Of a single source, given by its values and without a slot file: [`handling`], [`standing`],
-//! [`aspiration`] and [`group`] give its emissions as exact fractions.
+//! [`aspiration`], [`group`] and [`locomotive`] give its emissions as exact fractions.
 //!
 //! ```
 //! use tezhebul::{handling, Bulk, Handling, Refusal};
@@ -65,6 +65,6 @@ pub use emission::{Emission, Exact, ANNUAL_DENOMINATOR, PEAK_DENOMINATOR};
 pub use file::{answer, check, list, list_and_answer, Answer, LISTING_MOST};
 pub use refusal::Refusal;
 pub use rules::{
-    aspiration, group, handling, standing, Aspiration, Bulk, Coefficients, Group, Handling,
-    Standing, CONTROLLED, HEATED,
+    aspiration, group, handling, locomotive, standing, Aspiration, Bulk, Coefficients, Group,
+    Handling, Locomotive, Standing, CONTROLLED, HEATED,
 };

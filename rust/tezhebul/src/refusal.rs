@@ -6,18 +6,18 @@
 /// slot is 0.
 #[derive(Clone, Copy, Debug, PartialEq, Eq)]
 pub struct Refusal {
-    /// 1 to 13.
+    /// 1 to 14.
     pub number: u8,
     /// 0 where the question is about the whole file.
     pub slot: u16,
 }
 
 impl Refusal {
-    /// Of numbers that the library gave, where it may refuse by 1 to `most`.
-    pub(crate) fn read(number: u64, slot: u64, most: u64) -> Refusal {
-        assert!((1..=most).contains(&number), "refused by 1 to {most}");
+    /// Of numbers that the library gave, where it may refuse by those that are `asked`.
+    pub(crate) fn read(number: u64, slot: u64, asked: impl Fn(u64) -> bool) -> Refusal {
+        assert!(asked(number), "refused by {number}, which is not asked");
         Refusal {
-            number: number as u8,
+            number: u8::try_from(number).expect("a question's number is small"),
             slot: u16::try_from(slot).expect("a slot is below 65,536"),
         }
     }

@@ -1,7 +1,10 @@
 //! The rules of each kind of source, for tools that hold a source's values and no slot file.
 
 use crate::emission::{self, Emission};
-use crate::ffi::{self, COEFFICIENTS, EMISSIONS, GROUP_NUMBERS, POLLUTANTS, STORE_NUMBERS};
+use crate::ffi::{
+    self, COEFFICIENTS, EMISSIONS, GROUP_NUMBERS, LOCOMOTIVE_EMISSIONS, LOCOMOTIVE_NUMBERS,
+    POLLUTANTS, STORE_NUMBERS,
+};
 use crate::Refusal;
 
 /// Bulk material, handled or standing.
@@ -109,6 +112,22 @@ pub struct Coefficients {
     pub idle: u32,
 }
 
+/// A shunting locomotive.
+#[derive(Clone, Copy, Debug, PartialEq, Eq)]
+pub struct Locomotive {
+    /// 1 TGM6, 2 TGM4, 3 TGM3, 4 TU4 or TGK2.
+    pub model: u8,
+    /// Thousandths of the time at idle, at 25 %, 50 % and 75 % of the power and at full power, each
+    /// 0 to 1,000 and in all 1,000.
+    pub shares: [u16; 5],
+    /// Hours in a year, 0 to 8,784.
+    pub hours: u16,
+    /// 1 where it is over two years old, else 0.
+    pub old: u8,
+    /// 1 south of 44 degrees, 2 others, 3 north of 60 degrees.
+    pub zone: u8,
+}
+
 /// What a handling record gives. Refused by 9 where a field is out of range.
 pub fn handling(source: &Handling) -> Result<Emission, Refusal> {
     store(|out| ffi::handling(source, out))
@@ -139,6 +158,15 @@ pub fn group(
     let written = ffi::group(source, temperatures, &flat(coefficients), &mut numbers);
     assert!(written, "every length is that of the header");
     emission::read(&numbers, &[9, 11])
+}
+
+/// What a locomotive gives of CO, NO2 and soot. Refused by 9 where a field is out of range, then by
+/// 14 where the shares do not total 1,000.
+pub fn locomotive(source: &Locomotive) -> Result<[Emission; LOCOMOTIVE_EMISSIONS], Refusal> {
+    let mut numbers = [0; LOCOMOTIVE_NUMBERS];
+    let written = ffi::locomotive(source, &mut numbers);
+    assert!(written, "there is room for every number");
+    emission::read(&numbers, &[9, 14])
 }
 
 /// The answer of the rule of a store record that is handed the room for its numbers.

@@ -19,6 +19,7 @@ fn answer_of_b() -> Answer {
     Answer {
         groups: 1,
         stores: 0,
+        locomotives: 0,
         annual: [0, 0, 0, 0, 0, 24_000, 0, 0, 0, 0],
         peak: [0, 0, 0, 0, 0, 177_778, 0, 0, 0, 0],
     }
