@@ -75,7 +75,9 @@ fn said(trial: &Trial, tally: &mut Tally) -> Result<(), Difference> {
         }
         _ => {}
     }
-    tally.accepted += u64::from(check.is_ok());
+    if check.is_ok() {
+        tally.accept(trial.file);
+    }
     Ok(())
 }
 
@@ -118,6 +120,7 @@ fn figures(answer: tezhebul::Answer) -> plain::Answer {
     plain::Answer {
         groups: answer.groups,
         stores: answer.stores,
+        locomotives: answer.locomotives,
         annual: answer.annual,
         peak: answer.peak,
     }

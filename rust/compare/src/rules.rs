@@ -41,7 +41,8 @@ pub fn compare(seed: u64, index: u64, tally: &mut Rules) -> Result<(), Differenc
     handling(&mut random, &mut tally.handling)?;
     standing(&mut random, &mut tally.standing)?;
     aspiration(&mut random, &mut tally.aspiration)?;
-    group(&mut random, &mut tally.group)
+    group(&mut random, &mut tally.group)?;
+    locomotive(&mut random, &mut tally.locomotive)
 }
 
 fn handling(random: &mut Random, calls: &mut Calls) -> Result<(), Difference> {
@@ -114,6 +115,23 @@ fn group(random: &mut Random, calls: &mut Calls) -> Result<(), Difference> {
         (
             library(tezhebul::group(group, temperatures, coefficients)),
             plain.map(|given| given.map(of_plain)),
+        )
+    })
+}
+
+fn locomotive(random: &mut Random, calls: &mut Calls) -> Result<(), Difference> {
+    let source = sources::locomotive(random);
+    let plain = plain::Locomotive {
+        model: source.model.into(),
+        shares: source.shares.map(u32::from),
+        hours: source.hours.into(),
+        old: source.old.into(),
+        zone: source.zone.into(),
+    };
+    said("locomotive", &source, calls, || {
+        (
+            library(tezhebul::locomotive(&source)),
+            plain::locomotive(&plain).map(|given| given.map(of_plain)),
         )
     })
 }

@@ -2,7 +2,7 @@
 //! just past its range, some with any values that the C interface takes.
 
 use inputs::Random;
-use tezhebul::{Aspiration, Bulk, Coefficients, Group, Handling, Standing};
+use tezhebul::{Aspiration, Bulk, Coefficients, Group, Handling, Locomotive, Standing};
 
 use crate::values::{banded, range, Draw, Range};
 
@@ -29,6 +29,11 @@ const IDLE: Range = range(0, 250);
 const DISTANCE: Range = range(0, 20_000);
 const MONTHS: [i64; 12] = [31, 29, 31, 30, 31, 30, 31, 31, 30, 31, 30, 31];
 const TEMPERATURE: Range = banded(-600, 600, &[-250, -200, -150, -100, -50, 50]);
+
+const MODEL: Range = range(1, 4);
+const SHARE: Range = range(0, 1_000);
+const AGE: Range = range(0, 1);
+const ZONE: Range = range(1, 3);
 
 const PETROL: u8 = 1;
 const SOOT: usize = 3;
@@ -153,4 +158,70 @@ fn row(draw: &mut Draw) -> Coefficients {
         }
     }
     row
+}
+
+/// Most of the time with shares that total 1,000, whatever else is wrong.
+pub fn locomotive(random: &mut Random) -> Locomotive {
+    let mut draw = Draw::new(random, 9);
+    let mut source = Locomotive {
+        model: draw.u8(MODEL),
+        hours: draw.u16(HOURS),
+        old: draw.u8(AGE),
+        zone: draw.u8(ZONE),
+        shares: std::array::from_fn(|_| draw.u16(SHARE)),
+    };
+    let in_range = source.shares.iter().all(|&share| share <= 1_000);
+    if in_range && !draw.random.once_in(4) {
+        source.shares = total_1000(draw.random, source.shares);
+    }
+    source
+}
+
+/// The shares taken in turn, in any order, as far as there is time left; the last has the rest. Now
+/// and then one of them has a thousandth more or less, where it can.
+fn total_1000(random: &mut Random, shares: [u16; 5]) -> [u16; 5] {
+    let mut order = [0, 1, 2, 3, 4];
+    random.shuffle(&mut order);
+    let mut rest = 1_000;
+    let mut total = [0; 5];
+    for (turn, mode) in order.into_iter().enumerate() {
+        total[mode] = if turn == 4 {
+            rest
+        } else {
+            shares[mode].min(rest)
+        };
+        rest -= total[mode];
+    }
+    let one = &mut total[random.below(5)];
+    match random.below(16) {
+        0 if *one < 1_000 => *one += 1,
+        1 if *one > 0 => *one -= 1,
+        _ => {}
+    }
+    total
+}
+
+#[cfg(test)]
+mod tests {
+    use super::*;
+
+    #[test]
+    fn locomotives_of_every_sort() {
+        let mut random = Random::new(1, 1);
+        let (mut whole, mut other, mut past) = (0, 0, 0);
+        for _ in 0..4_000 {
+            let shares = locomotive(&mut random).shares;
+            if shares.iter().any(|&share| share > 1_000) {
+                past += 1;
+            } else if shares.iter().sum::<u16>() == 1_000 {
+                whole += 1;
+            } else {
+                other += 1;
+            }
+        }
+        assert!(
+            whole > 2_000 && other > 500 && past > 100,
+            "{whole} {other} {past}"
+        );
+    }
 }
