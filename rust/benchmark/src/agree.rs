@@ -5,8 +5,10 @@ use crate::work::BUFFER;
 pub fn agree(file: &[u8]) -> Result<(), String> {
     tezhebul::check(file).map_err(|refusal| format!("library: {refusal:?}"))?;
     plain::check(file).map_err(|refusal| format!("plain: {refusal:?}"))?;
-    let library = tezhebul::answer(file).map(|a| (a.groups, a.stores, a.annual, a.peak));
-    let plain = plain::answer(file).map(|a| (a.groups, a.stores, a.annual, a.peak));
+    let library =
+        tezhebul::answer(file).map(|a| ([a.groups, a.stores, a.locomotives], a.annual, a.peak));
+    let plain =
+        plain::answer(file).map(|a| ([a.groups, a.stores, a.locomotives], a.annual, a.peak));
     equal("answer", library.ok(), plain.ok())?;
     let mut library_buffer = [b'~'; BUFFER];
     let mut plain_buffer = [b'~'; BUFFER];

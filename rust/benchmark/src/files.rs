@@ -24,29 +24,41 @@ pub const SMALL: &str = "mix of 64";
 pub const LARGE: &str = "mix of 1,024";
 
 /// A plant of so many slots. Of each 63 behind slot 0, 9 are groups, 5 with six coefficient slots of
-/// their own and 4 that share those, and 24 are store records, as many of each kind.
+/// their own and 4 that share those, 21 are store records, as many of each kind, and 3 locomotives.
 fn mix(slots: usize) -> Size {
     let rest = slots - 1;
     let sets = rest * 5 / 63;
     let groups = if sets == 0 { 0 } else { rest * 9 / 63 };
+    let locomotives = rest * 3 / 63;
     Size {
         groups,
         sets,
-        stores: rest - groups - 6 * sets,
+        stores: rest - groups - 6 * sets - locomotives,
+        locomotives,
     }
 }
 
-fn sizes() -> [(&'static str, Size); 5] {
+const NONE: Size = Size {
+    groups: 0,
+    sets: 0,
+    stores: 0,
+    locomotives: 0,
+};
+
+fn sizes() -> [(&'static str, Size); 6] {
     let stores = Size {
-        groups: 0,
-        sets: 0,
         stores: 1_023,
+        ..NONE
     };
     // the most work that slots can be
     let groups = Size {
         groups: 1_017,
         sets: 1,
-        stores: 0,
+        ..NONE
+    };
+    let locomotives = Size {
+        locomotives: 1_023,
+        ..NONE
     };
     [
         ("empty file", mix(1)),
@@ -54,6 +66,7 @@ fn sizes() -> [(&'static str, Size); 5] {
         (LARGE, mix(1_024)),
         ("stores of 1,024", stores),
         ("groups of 1,024", groups),
+        ("locomotives of 1,024", locomotives),
     ]
 }
 

@@ -74,12 +74,13 @@ fn tell(measured: &Measured) -> Result<(), String> {
     agree::agree(&measured.file).map_err(|told| format!("{}: {told}", measured.name))?;
     let size = measured.size;
     println!(
-        "{}: slots {}, groups {}, sets of coefficients {}, store records {}",
+        "{}: slots {}, groups {}, sets of coefficients {}, store records {}, locomotives {}",
         measured.name,
         size.slots(),
         size.groups,
         size.sets,
-        size.stores
+        size.stores,
+        size.locomotives
     );
     Ok(())
 }

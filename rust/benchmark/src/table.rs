@@ -5,7 +5,7 @@ use crate::work::Pair;
 
 /// Headings as wide as their columns; the first two columns are names, the others numbers.
 const TIMES: [&str; 5] = [
-    "file           ",
+    "file                ",
     "work   ",
     "library ns/slot",
     "plain ns/slot",
