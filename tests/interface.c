@@ -1,4 +1,4 @@
-/* Calls the library by its header, on 01's surveyed examples, a locomotive and a slot file, as another tool would.
+/* Calls the library by its header, on 01's surveyed examples, a locomotive and slot files, as another tool would.
 
        interface FILE LISTING
 
@@ -62,17 +62,40 @@ static void group(uint8_t flags, uint64_t annual, uint64_t peak, const char *wha
                            coefficients, TEZHEBUL_COEFFICIENTS, out, TEZHEBUL_GROUP_NUMBERS), "eleven months");
 }
 
-/* The TGM6 that tests/locomotives.py works out by hand: 2.3875236, 15.4592928 and 0.1240092 t; 4.13, 15.21 and 0.38 kg/h over 3.6. */
+/* TGM6 with the shares of 000's Table 22, 1,000 hours, not old, in zone 2: 0.94743, 6.13464 and 0.04921 kg/h, at full power 4.13, 15.21 and 0.38. */
 static void locomotive(void)
 {
     uint64_t out[TEZHEBUL_LOCOMOTIVE_NUMBERS];
-    expect(tezhebul_locomotive(1, 687, 201, 89, 15, 8, 3000, 1, 2, out, TEZHEBUL_LOCOMOTIVE_NUMBERS) && out[0] == 0, "TGM6");
-    expect_emission(out + 2, 337, 2387524, 11472222, "TGM6, CO");
-    expect_emission(out + 2 + TEZHEBUL_EMISSION_NUMBERS, 301, 15459293, 42250000, "TGM6, NO2");
-    expect_emission(out + 2 + 2 * TEZHEBUL_EMISSION_NUMBERS, 328, 124009, 1055556, "TGM6, soot");
-    expect(tezhebul_locomotive(1, 687, 201, 89, 15, 7, 3000, 1, 2, out, TEZHEBUL_LOCOMOTIVE_NUMBERS) && out[0] == 14 && out[2] == 0, "shares of 999");
-    expect(tezhebul_locomotive(1, 687, 201, 89, 15, 7, 3000, 1, 4, out, TEZHEBUL_LOCOMOTIVE_NUMBERS) && out[0] == 9, "shares of 999 in zone 4");
-    expect(!tezhebul_locomotive(1, 687, 201, 89, 15, 8, 3000, 1, 2, out, TEZHEBUL_LOCOMOTIVE_NUMBERS - 1) && out[0] == 9, "no room for a locomotive");
+    expect(tezhebul_locomotive(1, 687, 201, 89, 15, 8, 1000, 0, 2, out, TEZHEBUL_LOCOMOTIVE_NUMBERS) && out[0] == 0 && out[1] == 0, "a locomotive");
+    expect_emission(out + 2, 337, 663201, 11472222, "a locomotive's CO");
+    expect_emission(out + 2 + TEZHEBUL_EMISSION_NUMBERS, 301, 4294248, 42250000, "a locomotive's NO2");
+    expect_emission(out + 2 + 2 * TEZHEBUL_EMISSION_NUMBERS, 328, 34447, 1055556, "a locomotive's soot");
+    expect(tezhebul_locomotive(1, 687, 201, 89, 15, 8, 1000, 1, 3, out, TEZHEBUL_LOCOMOTIVE_NUMBERS) && out[0] == 0, "an old one in the north");
+    expect_emission(out + 2, 337, 636673, 11472222, "an old one in the north, CO");
+    expect(tezhebul_locomotive(1, 687, 201, 89, 15, 7, 1000, 0, 4, out, TEZHEBUL_LOCOMOTIVE_NUMBERS) && out[0] == 9 && out[2] == 0, "zone 4");
+    expect(tezhebul_locomotive(1, 687, 201, 89, 15, 7, 1000, 0, 2, out, TEZHEBUL_LOCOMOTIVE_NUMBERS) && out[0] == 14 && out[2] == 0, "shares of 999");
+    expect(!tezhebul_locomotive(1, 687, 201, 89, 15, 8, 1000, 0, 2, out, TEZHEBUL_LOCOMOTIVE_NUMBERS - 1) && out[0] == 14, "no room for a locomotive");
+}
+
+/* The same locomotive in slot 1 of a file of two slots, and with a share that is one less. */
+static void locomotive_file(void)
+{
+    static const char last[] = "\nsources 0 0 1\n";
+    uint8_t data[128] = {1, 0, 2, 0}, buffer[TEZHEBUL_LISTING_MOST];
+    const uint8_t slot[18] = {0, 0, 6, 1, 0xaf, 2, 201, 0, 89, 0, 15, 0, 8, 0, 0xe8, 3, 0, 2};
+    uint64_t out[TEZHEBUL_NUMBERS + 1];
+    data[32] = 1;
+    memcpy(data + 64, slot, sizeof slot);
+    out[TEZHEBUL_NUMBERS - 1] = out[TEZHEBUL_NUMBERS] = 7;
+    expect(tezhebul_answer(data, sizeof data, out, TEZHEBUL_NUMBERS + 1) && out[0] == 0 && out[1] == 0, "a file with a locomotive");
+    expect(out[TEZHEBUL_NUMBERS - 1] == 0 && out[TEZHEBUL_NUMBERS] == 7, "as many numbers as the header says");
+    expect(out[2] == 0 && out[3] == 0 && out[4] == 1, "three counts");
+    expect(out[5 + 5] == 663201 && out[5 + TEZHEBUL_CODES + 5] == 11472222 && out[5] == 0, "the figures behind them");
+    size_t length = tezhebul_list(data, sizeof data, buffer, sizeof buffer, out, TEZHEBUL_NUMBERS);
+    size_t end = sizeof last - 1;
+    expect(length > end && memcmp(buffer + length - end, last, end) == 0, "three counts in the listing");
+    data[64 + 12] = 7;
+    expect(tezhebul_check(data, sizeof data) == 14 * 65536 + 1, "a file with shares of 999");
 }
 
 static size_t whole(const char *name, uint8_t *room)
@@ -107,6 +130,7 @@ int main(int count, char **words)
     group(TEZHEBUL_CONTROLLED, 20160, 146667, "C");
     group(TEZHEBUL_HEATED, 16800, 111111, "D");
     locomotive();
+    locomotive_file();
     file(words[1], words[2]);
     puts("the library by its header: as it should be");
 }
