@@ -16,8 +16,8 @@ use Rattle.slot_file.specs.Sources.{groupAt, Chains}
 use Rattle.slot_file.specs.Questions.{mostSlots, Question, question, slotCount, lastOf, sourcesOf, rowsAsks, closingAsks, groupLinkAsks, groupAsks, afterSixth}
 use Rattle.slot_file.specs.Meaning.{AllYes}
 use Rattle.slot_file.specs.Parts.{marksOf}
-use Rattle.walk.specs.Told.{asked, Told, LinkTold}
-use Rattle.walk.proofs.Telling.{told-before, told-after, told-ask}
+use Rattle.questions.specs.Told.{asked, Told, linkAsked}
+use Rattle.questions.proofs.Telling.{told-before, told-after, told-ask, link-told}
 
 module _ (s : List ℕ) (c : Chains) (g : ℕ) where
   abbrev pub rows : List Question
@@ -33,12 +33,12 @@ module _ (s : List ℕ) (c : Chains) (g : ℕ) where
       ∙ sym (append-assoc (groupLinkAsks s c g) (rowsAsks s g pollutantCount) (afterSixth s g ∷ eleven))
 
   module _ {v : Verdict} where
-    pub link-told : {sources : List Bool} (holder : ℕ) (read : GroupRead) → LinkTold s sources holder g (read .number) v → slotCount s ≤ mostSlots → read ≡ groupRead (slotOf s g)
+    pub group-link-told : {sources : List Bool} (holder : ℕ) (read : GroupRead) → Told (linkAsked s sources holder g (read .number)) v → slotCount s ≤ mostSlots → read ≡ groupRead (slotOf s g)
         → (g ≡ 0 → ⊥) → sources ≡ marksOf (sourcesOf c) → holder ≡ lastOf (c .groups) → Told (groupLinkAsks s c g) v
     unfolding groupRead
-    link-told holder read t l e z m h =
+    group-link-told holder read t l e z m h =
         let x = slotOf s g in
-        rw (← h) (t .told (sourcesOf c) (groupKind x) (groupGood x (groupOf x)) l m z (ap (λ (r : GroupRead). r .number) e))
+        rw (← h) (link-told s (sourcesOf c) (groupKind x) (groupGood x (groupOf x)) l m z (ap (λ (r : GroupRead). r .number) e) t)
 
     pub link-refused : Told (groupLinkAsks s c g) v → (v .number ≡ 0 → ⊥) → Told (groupAsks s c g) v
     link-refused t z = subst (λ (l : List Question). Told l v) asks-are (told-before (groupLinkAsks s c g) (rows ++ eleven) t z)

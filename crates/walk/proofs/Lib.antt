@@ -1,5 +1,4 @@
 -- The laws that belong to no one function.
-pub mod Telling
 pub mod GroupAsks
 pub mod Passing
 pub mod StoreAsks

@@ -12,14 +12,14 @@ use Rattle.slots.specs.declared.locomotive.LocomotiveRead.{LocomotiveRead}
 use Rattle.slot_file.specs.Sources.{locomotiveAt, Chains}
 use Rattle.slot_file.specs.Questions.{mostSlots, question, slotCount, lastOf, sourcesOf, locomotiveAsks}
 use Rattle.slot_file.specs.Parts.{marksOf}
-use Rattle.walk.specs.Told.{asked, Told, LinkTold}
-use Rattle.walk.proofs.Telling.{told-ask}
+use Rattle.questions.specs.Told.{asked, Told, linkAsked}
+use Rattle.questions.proofs.Telling.{told-ask, link-told}
 
-pub locomotive-told : (s : List ℕ) (c : Chains) {k holder : ℕ} {sources : List Bool} {linked v : Verdict} {read : LocomotiveRead} → LinkTold s sources holder k (read .number) linked
+pub locomotive-told : (s : List ℕ) (c : Chains) {k holder : ℕ} {sources : List Bool} {linked v : Verdict} {read : LocomotiveRead} → Told (linkAsked s sources holder k (read .number)) linked
     → slotCount s ≤ mostSlots → read ≡ locomotiveRead (slotOf s k) → (k ≡ 0 → ⊥) → v ≡ asked linked (question (sharesAddUp (read .locomotive)) 14 k)
     → sources ≡ marksOf (sourcesOf c) → holder ≡ lastOf (c .locomotives) → Told (locomotiveAsks s c k) v
 unfolding locomotiveAsks locomotiveAt locomotiveRead
 locomotive-told s c {k} {linked = linked} t l e z d m h =
     let x = slotOf s k in
-    rw (← h) (told-ask linked _ _ 14 k (lit< tt) (t .told (sourcesOf c) (locomotiveKind x) (locomotiveGood x (locomotiveOf x)) l m z (ap (λ (r : LocomotiveRead). r .number) e))
+    rw (← h) (told-ask linked _ _ 14 k (lit< tt) (link-told s (sourcesOf c) (locomotiveKind x) (locomotiveGood x (locomotiveOf x)) l m z (ap (λ (r : LocomotiveRead). r .number) e) t)
     (λ y. ap (λ (r : LocomotiveRead). sharesAddUp (r .locomotive)) e) d)

@@ -7,7 +7,7 @@ use lib.ListN.{set}
 use Rattle.vehicle_fields.specs.Fields.{pollutantCount}
 use Rattle.slot_file.specs.Sources.{coefficientSlot, groupAt}
 use Rattle.slot_file.specs.Questions.{afterSixth, rowsAsks}
-use Rattle.walk.specs.Told.{Told}
+use Rattle.questions.specs.Told.{Told}
 use Rattle.walk.specs.declared.rows.Rows.{Rows}
 
 -- the marks with the first n coefficient slots of g

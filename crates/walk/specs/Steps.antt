@@ -1,20 +1,25 @@
 -- What one step along a chain answers.
-use Prim.Native.Nat.{ℕ}
+use Prim.Native.Nat.{ℕ, _-_}
 use mathlib.Core.Path.{_≡_}
 use mathlib.Core.Bool.{Bool, true}
 use mathlib.Core.List.{List}
 use lib.ListN.{set}
+use Rattle.sums.specs.declared.answer.Verdict.{Verdict}
 use Rattle.vehicle_fields.specs.Fields.{pollutantCount}
 use Rattle.slots.specs.Bytes.{slotOf}
 use Rattle.slots.specs.Layout.{nextOf, readStore}
 use Rattle.slot_file.specs.Sources.{groupAt, locomotiveAt, Chains}
-use Rattle.slot_file.specs.Questions.{lastOf, sourcesOf, groupAsks, storeAsks, locomotiveAsks}
+use Rattle.slot_file.specs.Questions.{lastOf, sourcesOf, groupAsks, storeAsks, locomotiveAsks, reachAsks}
 use Rattle.slot_file.specs.Parts.{marksOf}
-use Rattle.walk.specs.Told.{Told}
+use Rattle.questions.specs.Told.{Told}
 use Rattle.walk.specs.Rows.{marksTo}
 use Rattle.walk.specs.declared.group_chain.GroupStep.{GroupStep}
 use Rattle.walk.specs.declared.store_chain.StoreStep.{StoreStep}
 use Rattle.walk.specs.declared.locomotive_chain.LocomotiveStep.{LocomotiveStep}
+
+-- of every slot from 1 up, whatever slots the marks are of
+abbrev pub ReachTold : List Bool → ℕ → Verdict → Type 0
+ReachTold marks count v = (l : List ℕ) → marks ≡ marksOf l → Told (reachAsks (count - 1) 1 l) v
 
 -- a group that nothing is refused of, and the marks after it
 pub record GroupTaken (s : List ℕ) (g : ℕ) (sources sources′ reached reached′ : List Bool) (r : GroupStep) : Type 0 where

@@ -6,7 +6,6 @@ ghost use Rattle.vehicles.specs.Rules.{groupAnswer};
 ghost use Rattle.slot_file.specs.Questions.{mostBytes};
 ghost use Rattle.walk.specs.Steps.{GroupStepped};
 ghost use Rattle.walk.specs.Walked.{plusGroup, GroupsBegin, GroupsWalked};
-use super::questions;
 use super::rows;
 use super::walked;
 use super::walked::Walked;
@@ -103,7 +102,7 @@ pub(crate) fn walk_groups(
         counts.groups += 1;
     }
     Walked {
-        verdict: questions::accept(),
+        verdict: Verdict { number: 0, slot: 0 },
         counts,
     }
 }

@@ -2,7 +2,7 @@
 pub mod file;
 mod group_chain;
 mod locomotive_chain;
-mod questions;
+mod reached;
 mod rows;
 mod store_chain;
 mod walked;

@@ -6,7 +6,6 @@ ghost use Rattle.locomotives.specs.Rules.{locomotiveAnswer};
 ghost use Rattle.slot_file.specs.Questions.{mostBytes};
 ghost use Rattle.walk.specs.Steps.{LocomotiveStepped};
 ghost use Rattle.walk.specs.Walked.{plusLocomotive, LocomotivesBegin, LocomotivesWalked};
-use super::questions;
 use super::walked::Walked;
 use locomotives::Locomotive;
 use slot_file::MOST_SLOTS;
@@ -90,7 +89,7 @@ pub(crate) fn walk_locomotives(
         counts.locomotives += 1;
     }
     Walked {
-        verdict: questions::accept(),
+        verdict: Verdict { number: 0, slot: 0 },
         counts,
     }
 }

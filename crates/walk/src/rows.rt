@@ -6,7 +6,6 @@ ghost use Rattle.slots.specs.Bytes.{slotOf};
 ghost use Rattle.slots.specs.Layout.{groupRead, coefficientsRead};
 ghost use Rattle.slot_file.specs.Questions.{mostBytes};
 ghost use Rattle.walk.specs.Rows.{RowsRead};
-use super::questions;
 use slot_file::MOST_SLOTS;
 use slots::CoefficientsRead;
 use sums::Verdict;
@@ -75,12 +74,15 @@ pub(crate) fn read_rows(file: &[u8], reached: &mut [bool; MOST_SLOTS], g: u16, f
     }
     if link != 0 {
         return Rows {
-            verdict: questions::refuse(10, holder),
+            verdict: Verdict {
+                number: 10,
+                slot: holder,
+            },
             coefficients,
         };
     }
     Rows {
-        verdict: questions::accept(),
+        verdict: Verdict { number: 0, slot: 0 },
         coefficients,
     }
 }

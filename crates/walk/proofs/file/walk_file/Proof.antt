@@ -1,9 +1,10 @@
 -- Each part is told of its questions, and goes on where the part before it ended.
 use native.Mathlib.Omega.{arith}
-use mathlib.Core.Path.{_≡_, _∙_}
+use mathlib.Core.Path.{_≡_, _∙_, subst}
 use lib.ListN.{length}
-use Rattle.slot_file.specs.Questions.{headAsks, lastAsks}
-use Rattle.slot_file.specs.Meaning.{AllYes, at-head, at-last}
+use Rattle.slots.specs.declared.header.Header.{Header}
+use Rattle.slot_file.specs.Questions.{headAsksOf, headAsks, lastAsks}
+use Rattle.slot_file.specs.Meaning.{AllYes, FirstNo, at-head, at-last}
 use Rattle.slot_file.proofs.Outcomes.{sized}
 use Rattle.walk.proofs.file.walk_file.Statement.{statement}
 use Rattle.walk.proofs.file.walk_file.Tie as tie
@@ -36,10 +37,21 @@ at-start c = c .before .before .before
 
 -- questions 1 to 5 are answered yes
 headed : (c : tie.Else1) → AllYes (headAsks (at-start (at-header c) .args .file .now))
-headed c = c .before .before .ask-head .ensures .all (c .if1 .left)
+unfolding headAsks
+headed c =
+    let s = at-start (at-header c) .args .file .now in
+    subst (λ (h : Header). AllYes (headAsksOf s h)) (at-header c .read-header .ensures) (c .before .before .ask-head .ensures .all (c .if1 .left))
 
 returns : tie.Need-returns
-returns c = record { refuses = λ z. at-head (c .before .before .before .ask-head .ensures .first z); passes = λ y. absurd (c .before .if1 .taken y) }
+unfolding headAsks
+returns c =
+    let t = c .before .before .before in
+    let s = at-start (t .before) .args .file .now in
+    let v = t .ask-head .result in
+    record {
+      refuses = λ z. at-head (subst (λ (h : Header). FirstNo (headAsksOf s h) (v .number) (v .slot)) (t .before .read-header .ensures) (t .ask-head .ensures .first z));
+      passes = λ y. absurd (c .before .if1 .taken y);
+    }
 
 walk-groups-requires : tie.Need-walk-groups-requires
 walk-groups-requires c κs =
@@ -116,5 +128,5 @@ returns-5 c =
 pub walk-file-spec : {M : Type 1} → statement M
 walk-file-spec =
     tie.close
-    (tie.spec (omega arith) (λ c κs. c .read-header .ensures) (omega arith) returns (omega arith) (omega arith) walk-groups-requires (omega arith) returns-2
+    (tie.spec (omega arith) (omega arith) (omega arith) returns (omega arith) (omega arith) walk-groups-requires (omega arith) returns-2
     walk-stores-requires (omega arith) returns-3 walk-locomotives-requires same-length-3 returns-4 ask-reached-requires same-length-4 returns-5)

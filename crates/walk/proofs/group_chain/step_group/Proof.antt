@@ -4,8 +4,8 @@ use mathlib.Core.Path.{refl, ap}
 use Rattle.slots.specs.Layout.{groupRead}
 use Rattle.slots.specs.declared.group.GroupRead.{GroupRead}
 use Rattle.slot_file.specs.Sources.{groupAt}
-use Rattle.walk.proofs.GroupAsks.{link-told, link-refused, eleven-told}
-use Rattle.walk.proofs.Telling.{asked-zero}
+use Rattle.walk.proofs.GroupAsks.{group-link-told, link-refused, eleven-told}
+use Rattle.questions.proofs.Telling.{asked-zero, link-below}
 use Rattle.walk.proofs.group_chain.step_group.Statement.{statement}
 use Rattle.walk.proofs.group_chain.step_group.Tie as tie
 
@@ -17,15 +17,16 @@ returns c =
     let g = a .args .link in
     let e = l .before .before .before .read-group .ensures in
     record {
-      told = λ b m h. link-refused s b g (link-told s b g (a .args .holder) _ (l .ask-link .ensures) (omega arith) e (a .pre .1) m h) (c .before .if1 .taken);
+      told = λ b m h. link-refused s b g (group-link-told s b g (a .args .holder) _ (l .ask-link .ensures) (omega arith) e (a .pre .1) m h) (c .before .if1 .taken);
       passed = λ y. absurd (c .before .if1 .taken y);
     }
 
-element-write-sources : tie.Need-element-write-sources
-element-write-sources c = omega (arith, c .before .before .ask-link .ensures .below (c .if1 .left))
-
-element-write-reached : tie.Need-element-write-reached
-element-write-reached c = omega (arith, c .before .before .ask-link .ensures .below (c .if1 .left))
+-- the slot is below the most where nothing is refused
+below : tie.Need-element-write-sources
+below c =
+    let l = c .before .before in
+    let a = l .before .before .before .before .before .args in
+    link-below (a .file .now) (a .sources .now) (a .holder) (a .link) (l .before .before .before .read-group .result .number) (l .ask-link .ensures) (c .if1 .left)
 
 read-rows-requires : tie.Need-read-rows-requires
 read-rows-requires c κs =
@@ -45,7 +46,7 @@ returns-2 c =
     let f = ap (λ (r : GroupRead). r .group) e in
     record {
       told = λ b m h.
-          eleven-told s b g _ _ _ t (link-told s b g (a .args .holder) _ (l .ask-link .ensures) (omega arith) e (a .pre .1) m h .all (r .before .before .if1 .left))
+          eleven-told s b g _ _ _ t (group-link-told s b g (a .args .holder) _ (l .ask-link .ensures) (omega arith) e (a .pre .1) m h .all (r .before .before .if1 .left))
           (r .read-rows .ensures .told) f (r .read-rows .ensures .coefficients);
       passed = λ y.
           let z = asked-zero _ _ t y in
@@ -61,4 +62,4 @@ returns-2 c =
 pub step-group-spec : {M : Type 1} → statement M
 step-group-spec =
     tie.close
-    (tie.spec (omega arith) (omega arith) (omega arith) returns element-write-sources element-write-reached read-rows-requires (omega arith) returns-2)
+    (tie.spec (omega arith) (omega arith) (omega arith) returns below below read-rows-requires (omega arith) returns-2)

@@ -6,7 +6,6 @@ use mathlib.Core.Path.{_≡_, refl, sym, ap, subst, _∙_}
 use mathlib.Core.List.{List, []}
 use lib.IntN.{ℤ}
 use lib.ListN.{length}
-use Rattle.sums.specs.declared.answer.Verdict.{Verdict}
 use Rattle.vehicles.specs.Rules.{groupAnswer}
 use Rattle.slots.specs.declared.header.Header.{Header}
 use Rattle.slot_file.specs.Sources.{temperaturesAt}
@@ -98,17 +97,17 @@ loop-again c =
     (l .add-group .ensures ∙ ap (λ (ts : List ℤ). plusGroup (a .args .summing) (b .loop .totals) (groupAnswer (r .group) ts (r .coefficients))) e)
 
 same-length-2 : tie.Need-same-length-2 Inv-loop μ-loop
-same-length-2 c = same-room (c .before .before)
+same-length-2 c = same-room (c .before)
 
 returns-2 : tie.Need-returns-2 Inv-loop μ-loop
 returns-2 c =
-    let b = c .before .before in
+    let b = c .before in
     record {
-      refuses = λ z. absurd (z (ap (λ (v : Verdict). v .number) (c .accept .ensures)));
-      ended = λ _. groups-ended _ (at-start b .pre .head) (b .loop .inv) (c .before .loop-test .left);
+      refuses = λ z. absurd (z refl);
+      ended = λ _. groups-ended _ (at-start b .pre .head) (b .loop .inv) (c .loop-test .left);
     }
 
 pub walk-groups-spec : {M : Type 1} → statement M
 walk-groups-spec =
     tie.close
-    (tie.spec Inv-loop μ-loop (omega arith) loop-holds step-group-requires same-length returns (omega arith) add-counts loop-less loop-again (omega arith) same-length-2 returns-2)
+    (tie.spec Inv-loop μ-loop (omega arith) loop-holds step-group-requires same-length returns (omega arith) add-counts loop-less loop-again same-length-2 returns-2)

@@ -1,14 +1,13 @@
 -- The questions of the link, and question 14; the slot is marked where none is answered no.
 use native.Mathlib.Omega.{arith}
 use mathlib.Core.Path.{_≡_, refl, ap}
-use Rattle.sums.specs.declared.answer.Verdict.{Verdict}
 use Rattle.slots.specs.Layout.{locomotiveRead}
 use Rattle.slots.specs.declared.locomotive.LocomotiveRead.{LocomotiveRead}
 use Rattle.slot_file.specs.Sources.{locomotiveAt, Chains}
 use Rattle.slot_file.specs.Questions.{lastOf, sourcesOf, locomotiveAsks}
 use Rattle.slot_file.specs.Parts.{marksOf}
-use Rattle.walk.specs.Told.{Told}
-use Rattle.walk.proofs.Telling.{asked-zero}
+use Rattle.questions.specs.Told.{Told}
+use Rattle.questions.proofs.Telling.{asked-zero, link-below}
 use Rattle.walk.proofs.LocomotiveAsks.{locomotive-told}
 use Rattle.walk.proofs.locomotive_chain.step_locomotive.Statement.{statement}
 use Rattle.walk.proofs.locomotive_chain.step_locomotive.Tie as tie
@@ -35,7 +34,9 @@ told c d =
 below : tie.Need-element-write-sources
 below c =
     let e = c .before .before in
-    omega (arith, at-link e .ask-link .ensures .below (asked-zero _ _ (e .ask-shares .ensures) (c .if1 .taken)))
+    let l = at-link e in
+    let a = at-start (at-slot l) .args in
+    link-below (a .file .now) (a .sources .now) (a .holder) (a .link) (at-slot l .read-locomotive .result .number) (l .ask-link .ensures) (asked-zero _ _ (e .ask-shares .ensures) (c .if1 .taken))
 
 returns : tie.Need-returns
 unfolding locomotiveAt locomotiveRead

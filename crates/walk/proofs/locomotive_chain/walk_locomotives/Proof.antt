@@ -4,7 +4,6 @@ use native.Mathlib.Omega.{arith}
 use Prim.Native.Nat.{_-_}
 use mathlib.Core.Path.{_≡_, refl, sym, ap, _∙_}
 use lib.ListN.{length}
-use Rattle.sums.specs.declared.answer.Verdict.{Verdict}
 use Rattle.slots.specs.declared.header.Header.{Header}
 use Rattle.slot_file.specs.Questions.{mostSlots, storesSoFar, locomotivesSoFar}
 use Rattle.slot_file.specs.Meaning.{at-locomotive}
@@ -84,17 +83,17 @@ loop-again c =
     (l .add-locomotive .ensures)
 
 same-length-2 : tie.Need-same-length-2 Inv-loop μ-loop
-same-length-2 c = same-room (c .before .before)
+same-length-2 c = same-room (c .before)
 
 returns-2 : tie.Need-returns-2 Inv-loop μ-loop
 returns-2 c =
-    let b = c .before .before in
+    let b = c .before in
     record {
-      refuses = λ z. absurd (z (ap (λ (v : Verdict). v .number) (c .accept .ensures)));
-      ended = λ _. locomotives-ended _ (at-start b .pre .head) (b .loop .inv) (c .before .loop-test .left);
+      refuses = λ z. absurd (z refl);
+      ended = λ _. locomotives-ended _ (at-start b .pre .head) (b .loop .inv) (c .loop-test .left);
     }
 
 pub walk-locomotives-spec : {M : Type 1} → statement M
 walk-locomotives-spec =
     tie.close
-    (tie.spec Inv-loop μ-loop loop-holds step-locomotive-requires same-length returns (omega arith) add-counts loop-less loop-again (omega arith) same-length-2 returns-2)
+    (tie.spec Inv-loop μ-loop loop-holds step-locomotive-requires same-length returns (omega arith) add-counts loop-less loop-again same-length-2 returns-2)

@@ -17,7 +17,7 @@ use Rattle.slot_file.specs.Sources.{coefficientSlot, groupAt}
 use Rattle.slot_file.specs.Questions.{slotCount, coefficientHolder, coefficientAsks, rowsAsks, afterSixth}
 use Rattle.slot_file.specs.Meaning.{AllYes, here}
 use Rattle.walk.specs.Rows.{marksTo}
-use Rattle.walk.proofs.Telling.{told-no, told-yes, not-refused}
+use Rattle.questions.proofs.Telling.{told-no, told-yes, row-told}
 use Rattle.slot_file.proofs.Asking.{all-append, no-before, no-after}
 use Rattle.slot_file.proofs.SixRows.{rows-yes, rows-no}
 use Rattle.walk.proofs.rows.read_rows.Statement.{statement}
@@ -41,7 +41,7 @@ returns c =
     let b = c .before .before .before .before .before in
     let a = b .before .before .before .args in
     let s = a .file .now in
-    let told = c .before .before .ask-row .ensures (a .g) (b .loop .inv .3) (b .loop .inv .4) (c .before .before .before .row-at .ensures) in
+    let told = row-told s (a .g) (b .loop .n) (b .loop .inv .3) (b .loop .inv .4) (c .before .before .before .row-at .ensures) (c .before .before .ask-row .ensures) in
     record {
       told = record {
         all = λ z. absurd (c .if1 .taken z);
@@ -61,7 +61,7 @@ element-write-reached c =
     let p = c .before .before in
     let b = at-loop p in
     let a = b .before .before .before .args in
-    let told = p .before .before .ask-row .ensures (a .g) (b .loop .inv .3) (b .loop .inv .4) (p .before .before .before .row-at .ensures) in
+    let told = row-told (a .file .now) (a .g) (b .loop .n) (b .loop .inv .3) (b .loop .inv .4) (p .before .before .before .row-at .ensures) (p .before .before .ask-row .ensures) in
     let l = ltb-true (coefficientSlot (a .file .now) (a .g) (b .loop .n)) (slotCount (a .file .now)) (told .all (p .if1 .left) .1 .0) in
     omega (arith, l, b .loop .inv .4)
 
@@ -73,7 +73,7 @@ loop-again c =
     let a = b .before .before .before .args in
     let s = a .file .now in
     let row = p .before .before .before .row-at .ensures in
-    let told = p .before .before .ask-row .ensures (a .g) (b .loop .inv .3) (b .loop .inv .4) row in
+    let told = row-told s (a .g) (b .loop .n) (b .loop .inv .3) (b .loop .inv .4) row (p .before .before .ask-row .ensures) in
     let e = b .loop .inv .4 in (
       omega arith,
       search needs,
@@ -89,29 +89,28 @@ loop-again c =
 returns-2 : tie.Need-returns-2 Inv-loop μ-loop
 unfolding coefficientHolder
 returns-2 c =
-    let b = c .before .before .before in
+    let b = c .before .before in
     let a = b .before .before .before .args in
     let s = a .file .now in
     let n : b .loop .n ≡ pollutantCount = omega arith in
-    let z : coefficientSlot s (a .g) pollutantCount ≡ 0 → ⊥ = λ z. c .before .if2 .taken (rw n at (b .loop .inv .4) ∙ z) in
-    let v = not-refused 10 (b .loop .holder) (c .refuse .ensures) (omega arith) in
+    let z : coefficientSlot s (a .g) pollutantCount ≡ 0 → ⊥ = λ z. c .if2 .taken (rw n at (b .loop .inv .4) ∙ z) in
     record {
-      told = told-no 10 (coefficientSlot s (a .g) (pollutantCount - 1)) (c .refuse .ensures ∙ ap (λ (k : ℕ). record { number = 10; slot = k }) (rw n at (b .loop .inv .3))) (omega arith)
+      told = told-no 10 (coefficientSlot s (a .g) (pollutantCount - 1)) (ap (λ (k : ℕ). record { number = 10; slot = k }) (rw n at (b .loop .inv .3))) (omega arith)
           (no-after (rowsAsks s (a .g) pollutantCount) (afterSixth s (a .g) ∷ []) (rw n at (b .loop .inv .2)) (here _ _ (ne-eqb _ 0 z)));
-      coefficients = λ y. absurd (v y);
-      marks = λ y. absurd (v y);
+      coefficients = λ y. absurd (omega (arith, y));
+      marks = λ y. absurd (omega (arith, y));
     }
 
 returns-3 : tie.Need-returns-3 Inv-loop μ-loop
 unfolding groupAt
 returns-3 c =
-    let b = c .before .before .before in
+    let b = c .before .before in
     let a = b .before .before .before .args in
     let s = a .file .now in
     let n : b .loop .n ≡ pollutantCount = omega arith in
-    let z : coefficientSlot s (a .g) pollutantCount ≡ 0 = sym (rw n at (b .loop .inv .4)) ∙ c .before .if2 .left in
+    let z : coefficientSlot s (a .g) pollutantCount ≡ 0 = sym (rw n at (b .loop .inv .4)) ∙ c .if2 .left in
     record {
-      told = told-yes (c .accept .ensures) (all-append (rowsAsks s (a .g) pollutantCount) (afterSixth s (a .g) ∷ []) (rw n at (b .loop .inv .2)) (eq-eqb _ 0 z, tt));
+      told = told-yes refl (all-append (rowsAsks s (a .g) pollutantCount) (afterSixth s (a .g) ∷ []) (rw n at (b .loop .inv .2)) (eq-eqb _ 0 z, tt));
       coefficients = λ _.
           listTo-is noCoefficients pollutantCount (b .loop .coefficients) (λ (m : ℕ). coefficientsRead (slotOf s (coefficientSlot s (a .g) m)) .coefficients) (b .loop .inv .1)
           (rw n at (b .loop .inv .6));
@@ -122,4 +121,4 @@ pub read-rows-spec : {M : Type 1} → statement M
 read-rows-spec =
     tie.close
     (tie.spec Inv-loop μ-loop (omega arith) loop-holds (omega arith) (omega arith) returns (omega arith) (omega arith) (omega arith) (omega arith)
-    element-write-reached (omega arith) (omega arith) loop-again (omega arith) returns-2 (omega arith) returns-3)
+    element-write-reached (omega arith) (omega arith) loop-again returns-2 returns-3)

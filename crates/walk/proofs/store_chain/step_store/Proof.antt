@@ -4,7 +4,8 @@ use mathlib.Core.Path.{_≡_, refl, _∙_}
 use Rattle.slot_file.specs.Sources.{Chains}
 use Rattle.slot_file.specs.Questions.{lastOf, sourcesOf, storeAsks}
 use Rattle.slot_file.specs.Parts.{marksOf}
-use Rattle.walk.specs.Told.{Told}
+use Rattle.questions.specs.Told.{Told}
+use Rattle.questions.proofs.Telling.{link-below}
 use Rattle.walk.proofs.StoreAsks.{store-told}
 use Rattle.walk.proofs.store_chain.step_store.Statement.{statement}
 use Rattle.walk.proofs.store_chain.step_store.Tie as tie
@@ -19,11 +20,12 @@ returns c =
     λ d. store-told s d (l .ask-link .ensures) (omega arith) (l .before .number-of .ensures ∙ r .number) (a .pre .1) in
     record { read = r .read; told = told; passed = λ y. absurd (c .if1 .taken y) }
 
-element-write-sources : tie.Need-element-write-sources
-element-write-sources c = omega (arith, c .before .before .ask-link .ensures .below (c .if1 .left))
-
-element-write-reached : tie.Need-element-write-reached
-element-write-reached c = omega (arith, c .before .before .ask-link .ensures .below (c .if1 .left))
+-- the slot is below the most where nothing is refused
+below : tie.Need-element-write-sources
+below c =
+    let l = c .before .before in
+    let a = l .before .before .before .before .before .args in
+    link-below (a .file .now) (a .sources .now) (a .holder) (a .link) (l .before .number-of .result) (l .ask-link .ensures) (c .if1 .left)
 
 returns-2 : tie.Need-returns-2
 returns-2 c =
@@ -38,4 +40,4 @@ returns-2 c =
 pub step-store-spec : {M : Type 1} → statement M
 step-store-spec =
     tie.close
-    (tie.spec (omega arith) (omega arith) (omega arith) returns element-write-sources element-write-reached (omega arith) returns-2)
+    (tie.spec (omega arith) (omega arith) (omega arith) returns below below (omega arith) returns-2)

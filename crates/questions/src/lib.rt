@@ -1,12 +1,9 @@
-// The questions in order: of a list of them, the number and the slot of the first that is answered no, or 0 and 0.
+// The questions in order, of what the walk has read: of a list of them, the number and the slot of the first that is answered no, or 0 and 0.
 ghost use mathlib.Core.Path.{_≡_};
-ghost use Prim.Native.Nat.{_≤_};
-ghost use lib.ListN.{length};
 ghost use Rattle.vehicle_fields.specs.SootAndLead.{zeroWhereDue};
 ghost use Rattle.locomotives.specs.Fields.{sharesAddUp};
-ghost use Rattle.slot_file.specs.Sources.{headerAt};
-ghost use Rattle.slot_file.specs.Questions.{mostSlots, mostBytes, question, headAsks};
-ghost use Rattle.walk.specs.Told.{asked, Told, LinkTold, RowTold, ReachTold};
+ghost use Rattle.slot_file.specs.Questions.{question, headAsksOf};
+ghost use Rattle.questions.specs.Told.{asked, Told, linkAsked, rowAsked};
 use locomotives::Locomotive;
 use slot_file::MOST_SLOTS;
 use slots::CoefficientsRead;
@@ -17,13 +14,13 @@ use vehicle_fields::Coefficients;
 use vehicle_fields::Group;
 use vehicle_fields::POLLUTANTS;
 
-pub(crate) fn accept() -> Verdict
+fn accept() -> Verdict
     ensures { λ r. ⌜ r ≡ record { number = 0; slot = 0 } ⌝ }
 {
     Verdict { number: 0, slot: 0 }
 }
 
-pub(crate) fn refuse(number: u8, slot: u16) -> Verdict
+fn refuse(number: u8, slot: u16) -> Verdict
     ensures { λ r. ⌜ r ≡ record { number = number; slot = slot } ⌝ }
 {
     Verdict { number, slot }
@@ -33,9 +30,8 @@ pub(crate) fn refuse(number: u8, slot: u16) -> Verdict
 const MOST_BYTES: usize = SLOT_SIZE * MOST_SLOTS;
 
 // Questions 1 to 5, of the file and its slot 0.
-pub(crate) fn ask_head(file: &[u8], h: Header) -> Verdict
-    requires { ⌜ h ≡ headerAt (now file) ⌝ }
-    ensures { λ r. ⌜ Told (headAsks (now (file .entry))) r ⌝ }
+pub fn ask_head(file: &[u8], h: Header) -> Verdict
+    ensures { λ r. ⌜ Told (headAsksOf (now (file .entry)) h) r ⌝ }
 {
     let n = file.len();
     let whole = (SLOT_SIZE <= n) & (n <= MOST_BYTES) & (n % SLOT_SIZE == 0);
@@ -59,18 +55,18 @@ pub(crate) fn ask_head(file: &[u8], h: Header) -> Verdict
 }
 
 // Questions 6 to 9, of a link to a group, store record or locomotive: `number` is what the slot's read answers of 8 and 9.
-pub(crate) fn ask_link(
+pub fn ask_link(
     file: &[u8],
     sources: &[bool; MOST_SLOTS],
     holder: u16,
     link: u16,
     number: u8,
 ) -> Verdict
-    requires { ⌜ length (now file) ≤ mostBytes ⌝ }
-    ensures { λ r. ⌜ LinkTold (now (file .entry)) (now (sources .entry)) holder link number r ⌝ }
+    ensures { λ r. ⌜ Told (linkAsked (now (file .entry)) (now (sources .entry)) holder link number) r ⌝ }
 {
     let k = link as usize;
-    if file.len() / SLOT_SIZE <= k {
+    let below = (k < file.len() / SLOT_SIZE) & (k < MOST_SLOTS);
+    if !below {
         return refuse(6, holder);
     }
     if sources[k] {
@@ -86,14 +82,8 @@ pub(crate) fn ask_link(
 }
 
 // Questions 10, 6, 8, 9 and 10, of a link to a group's coefficient slot at a place from 0.
-pub(crate) fn ask_row(
-    file: &[u8],
-    holder: u16,
-    link: u16,
-    place: u8,
-    row: CoefficientsRead,
-) -> Verdict
-    ensures { λ r. ⌜ RowTold (now (file .entry)) holder link place row r ⌝ }
+pub fn ask_row(file: &[u8], holder: u16, link: u16, place: u8, row: CoefficientsRead) -> Verdict
+    ensures { λ r. ⌜ Told (rowAsked (now (file .entry)) holder link place row) r ⌝ }
 {
     if link == 0 {
         return refuse(10, holder);
@@ -114,7 +104,7 @@ pub(crate) fn ask_row(
 }
 
 // Question 11, of a group that was told `before` by the questions before it.
-pub(crate) fn ask_soot_and_lead(
+pub fn ask_soot_and_lead(
     before: Verdict,
     group: Group,
     coefficients: [Coefficients; POLLUTANTS],
@@ -132,7 +122,7 @@ pub(crate) fn ask_soot_and_lead(
 }
 
 // Question 14, of a locomotive that was told `before` by the questions before it.
-pub(crate) fn ask_shares(before: Verdict, locomotive: Locomotive, link: u16) -> Verdict
+pub fn ask_shares(before: Verdict, locomotive: Locomotive, link: u16) -> Verdict
     ensures { λ r. ⌜ r ≡ asked before (question (sharesAddUp locomotive) 14 link) ⌝ }
 {
     if before.number != 0 {
@@ -142,19 +132,4 @@ pub(crate) fn ask_shares(before: Verdict, locomotive: Locomotive, link: u16) -> 
         return refuse(14, link);
     }
     before
-}
-
-// Question 12, of each slot from 1 up: it ends at the count of slots.
-pub(crate) fn ask_reached(reached: &[bool; MOST_SLOTS], count: usize) -> Verdict
-    requires { ⌜ count ≤ mostSlots ⌝ }
-    ensures { λ r. ⌜ ReachTold (now (reached .entry)) count r ⌝ }
-{
-    let mut i = 1;
-    while i < count {
-        if !reached[i] {
-            return refuse(12, i as u16);
-        }
-        i += 1;
-    }
-    accept()
 }

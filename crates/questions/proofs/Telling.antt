@@ -1,22 +1,26 @@
 -- What a list of questions is told, by an answer at hand and along an append of lists. Assumes nothing.
-use Prim.Native.Nat.{ℕ, suc, _+_, _<_}
+use Prim.Native.Nat.{ℕ, _+_, _<_, _≤_}
 use native.Mathlib.Omega.{arith}
 use mathlib.Core.Path.{_≡_, refl, sym, ap, _∙_}
-use mathlib.Core.Bool.{Bool, true, false, not}
+use mathlib.Core.Bool.{Bool, true, false, _&&_, not}
 use mathlib.Core.List.{List, [], _∷_, _++_}
-use lib.Dec.{eqb}
+use lib.Dec.{ltb, eqb}
 use lib.ListN.{getD}
 use native.Mathlib.Decide.{decLt}
-use borrow.Author.Tests.{eq-eqb, ne-eqb}
+use borrow.Author.Tests.{lt-ltb, ltb-true, eq-eqb, ne-eqb}
 use Rattle.sums.specs.Choice.{if_then_else}
 use Rattle.sums.specs.declared.answer.Verdict.{Verdict}
-use Rattle.slots.specs.Bytes.{numberOf}
-use Rattle.slot_file.specs.Questions.{mostSlots, Question, question, member, reachAsks}
+use Rattle.sums.proofs.Choices.{right}
+use Rattle.slots.specs.Bytes.{slotOf, numberOf}
+use Rattle.slots.specs.Layout.{coefficientsRead}
+use Rattle.slots.specs.declared.coefficients.CoefficientsRead.{CoefficientsRead}
+use Rattle.slot_file.specs.Sources.{coefficientSlot}
+use Rattle.slot_file.specs.Questions.{mostSlots, Question, question, slotCount, member, linkAsks, coefficientHolder, coefficientAsks}
 use Rattle.slot_file.specs.Meaning.{AllYes, FirstNo, here, later}
 use Rattle.slot_file.proofs.Asking.{all-append, no-before, no-after}
 use Rattle.slot_file.proofs.Marks.{marks-member}
 use Rattle.slot_file.specs.Parts.{marksOf}
-use Rattle.walk.specs.Told.{asked, Told}
+use Rattle.questions.specs.Told.{asked, Told, linkAsked, rowAsked}
 
 pub told-no : {qs : List Question} {v : Verdict} (n k : ℕ) → v ≡ record { number = n; slot = k } → (n ≡ 0 → ⊥) → FirstNo qs n k → Told qs v
 told-no n k e z f = rw e (record { all = λ y. absurd (z y); first = λ _. f })
@@ -72,6 +76,14 @@ good-told true true e k = rw e refl
 good-told true false e k = rw e refl
 good-told false good e k = cc
 
+-- a link below the slots is below the most of them
+below-most : (k n : ℕ) → n ≤ mostSlots → (ltb k n && ltb k mostSlots) ≡ ltb k n
+below-most k n l = go (ltb k n) refl
+  where
+    go : (t : Bool) → ltb k n ≡ t → (t && ltb k mostSlots) ≡ t
+    go true e = lt-ltb k mostSlots (omega (arith, ltb-true k n e))
+    go false e = refl
+
 -- what the questions qs are told, all of them are: those before qs were answered yes
 pub record Rest (qs whole : List Question) : Type 0 where
   pub all : AllYes qs → AllYes whole
@@ -112,7 +124,47 @@ same-no qs (p ∷ ps) s (later q rest e f) = let y = sym (s .0) ∙ e in later p
 pub same-told : (qs ps : List Question) {v : Verdict} → SameAsks qs ps → Told qs v → Told ps v
 same-told qs ps s t = record { all = λ y. same-all qs ps s (t .all y); first = λ z. same-no qs ps s (t .first z) }
 
--- the questions of one slot more
-pub reach-turn : (n m i : ℕ) (l : List ℕ) → n ≡ suc m → reachAsks n i l ≡ question (member i l) 12 i ∷ reachAsks m (i + 1) l
-unfolding reachAsks
-reach-turn n m i l e = rw e
+-- of a link whose marks are those of the slots before it, and whose read is numbered for its kind and its fields
+pub link-told : (s before : List ℕ) {marks : List Bool} {holder k number : ℕ} {v : Verdict} (kind good : Bool) → slotCount s ≤ mostSlots → marks ≡ marksOf before → (k ≡ 0 → ⊥)
+    → number ≡ numberOf kind good → Told (linkAsked s marks holder k number) v → Told (linkAsks s holder before k kind good) v
+unfolding linkAsks
+link-told s before {marks} {holder} {k} {number} kind good l m z e t =
+    let b = below-most k (slotCount s) l in
+    same-told (linkAsked s marks holder k number) (linkAsks s holder before k kind good) (
+      b,
+      refl,
+      refl,
+      λ y. (
+        ap not (sym (marked before k m z (omega (arith, ltb-true k (slotCount s) y)) refl)),
+        refl,
+        refl,
+        λ _. (kind-told kind good e, refl, refl, λ r. (good-told kind good e r, refl, refl, λ _. tt)),
+      ),
+    ) t
+
+pub link-below : (s : List ℕ) (marks : List Bool) (holder k number : ℕ) {v : Verdict} → Told (linkAsked s marks holder k number) v → v .number ≡ 0 → k < mostSlots
+link-below s marks holder k number t y = ltb-true k mostSlots (right (ltb k (slotCount s)) (ltb k mostSlots) (t .all y .0))
+
+-- of a link to the coefficient slot at place n of a group
+pub row-told : (s : List ℕ) (g n : ℕ) {holder k : ℕ} {row : CoefficientsRead} {v : Verdict} → holder ≡ coefficientHolder s g n → k ≡ coefficientSlot s g n
+    → row ≡ coefficientsRead (slotOf s k) → Told (rowAsked s holder k n row) v → Told (coefficientAsks s g n) v
+unfolding coefficientAsks coefficientsRead
+row-told s g n h k w t =
+    let e = ap (λ (r : CoefficientsRead). r .number) w in
+    let p = ap (λ (r : CoefficientsRead). eqb (r .pollutant) (n + 1)) w in
+    rw (← h, ← k) (same-told _ _ (
+      refl,
+      refl,
+      refl,
+      λ _. (
+        refl,
+        refl,
+        refl,
+        λ _. (
+          kind-told _ _ e,
+          refl,
+          refl,
+          λ y. (good-told _ _ e y, refl, refl, λ _. (p, refl, refl, λ _. tt)),
+        ),
+      ),
+    ) t)

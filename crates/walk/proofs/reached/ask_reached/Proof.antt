@@ -1,15 +1,20 @@
 -- The slots passed are all reached, so the rest is told of the whole.
 use borrow.Author.Tests.{not-true, not-false}
 use native.Mathlib.Omega.{arith}
-use Prim.Native.Nat.{ℕ, _≤_, _+_, _-_}
-use mathlib.Core.Path.{_≡_}
-use mathlib.Core.List.{List}
-use Rattle.slot_file.specs.Questions.{reachAsks}
+use Prim.Native.Nat.{ℕ, suc, _≤_, _+_, _-_}
+use mathlib.Core.Path.{_≡_, refl}
+use mathlib.Core.List.{List, _∷_}
+use Rattle.slot_file.specs.Questions.{question, member, reachAsks}
 use Rattle.slot_file.specs.Meaning.{here}
 use Rattle.slot_file.specs.Parts.{marksOf}
-use Rattle.walk.proofs.Telling.{told-no, told-yes, marked, Rest, rest-on, reach-turn}
-use Rattle.walk.proofs.questions.ask_reached.Statement.{statement}
-use Rattle.walk.proofs.questions.ask_reached.Tie as tie
+use Rattle.questions.proofs.Telling.{told-no, told-yes, marked, Rest, rest-on}
+use Rattle.walk.proofs.reached.ask_reached.Statement.{statement}
+use Rattle.walk.proofs.reached.ask_reached.Tie as tie
+
+-- the questions of one slot more
+reach-turn : (n m i : ℕ) (l : List ℕ) → n ≡ suc m → reachAsks n i l ≡ question (member i l) 12 i ∷ reachAsks m (i + 1) l
+unfolding reachAsks
+reach-turn n m i l e = rw e
 
 abbrev Inv-loop : tie.InvT-loop
 Inv-loop reached count i₀ i = (1 ≤ i) × ((l : List ℕ) → reached ≡ marksOf l → Rest (reachAsks (count - i) i l) (reachAsks (count - 1) 1 l))
@@ -22,12 +27,12 @@ loop-holds c = (omega arith, λ l m. record { all = λ a. a; first = λ n k f. f
 
 returns : tie.Need-returns Inv-loop μ-loop
 returns c l m =
-    let b = c .before .before .before .before in
+    let b = c .before .before .before in
     let i = b .loop .i in
     let n = b .before .args .count in
     let e = reach-turn (n - i) (n - (i + 1)) i l (omega arith) in
-    let t = marked l i m (λ z. omega arith) (omega arith) (not-true _ (c .before .if1 .taken)) in
-    told-no 12 i (c .refuse .ensures) (omega arith) (b .loop .inv .1 l m .first 12 i (rw e (here _ _ t)))
+    let t = marked l i m (λ z. omega arith) (omega arith) (not-true _ (c .if1 .taken)) in
+    told-no 12 i refl (omega arith) (b .loop .inv .1 l m .first 12 i (rw e (here _ _ t)))
 
 loop-again : tie.Need-loop-again Inv-loop μ-loop
 loop-again c =
@@ -44,9 +49,9 @@ loop-again c =
 returns-2 : tie.Need-returns-2 Inv-loop μ-loop
 unfolding reachAsks
 returns-2 c l m =
-    let b = c .before .before in
+    let b = c .before in
     let e : b .before .args .count - b .loop .i ≡ 0 = omega arith in
-    told-yes (c .accept .ensures) (b .loop .inv .1 l m .all (rw e tt))
+    told-yes refl (b .loop .inv .1 l m .all (rw e tt))
 
 pub ask-reached-spec : {M : Type 1} → statement M
-ask-reached-spec = tie.close (tie.spec Inv-loop μ-loop loop-holds (omega arith) (omega arith) (omega arith) returns (omega arith) (omega arith) loop-again (omega arith) returns-2)
+ask-reached-spec = tie.close (tie.spec Inv-loop μ-loop loop-holds (omega arith) (omega arith) returns (omega arith) (omega arith) loop-again returns-2)

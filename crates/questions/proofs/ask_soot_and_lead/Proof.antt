@@ -3,9 +3,9 @@ use borrow.Author.Tests.{eq-eqb, ne-eqb, not-true, not-false}
 use native.Mathlib.Omega.{arith}
 use mathlib.Core.Path.{sym, _∙_}
 use Rattle.sums.specs.Choice.{if_then_else}
-use Rattle.walk.specs.Told.{asked}
-use Rattle.walk.proofs.questions.ask_soot_and_lead.Statement.{statement}
-use Rattle.walk.proofs.questions.ask_soot_and_lead.Tie as tie
+use Rattle.questions.specs.Told.{asked}
+use Rattle.questions.proofs.ask_soot_and_lead.Statement.{statement}
+use Rattle.questions.proofs.ask_soot_and_lead.Tie as tie
 
 returns : tie.Need-returns
 unfolding asked if_then_else

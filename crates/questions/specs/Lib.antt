@@ -1,0 +1,2 @@
+-- What the questions are told.
+pub mod Told
