@@ -23,7 +23,7 @@ use Rattle.slots.specs.declared.store.StoreRecord.the-variants.{Handling, Stand
 use Rattle.slots.specs.declared.store.StoreRead.{StoreRead}
 use Rattle.slot_file.specs.Sources.{coefficientSlot, groupAt, storeAt, locomotiveAt, temperaturesAt, Chains}
 use Rattle.slot_file.specs.Questions.{mostSlots, slotCount, headAsks, coefficientSlots, reachedBy, sourcesOf, groupsSoFar, storesSoFar, locomotivesSoFar, storeAsks}
-use Rattle.slot_file.specs.Meaning.{AllYes, Groups, Stores, Locomotives}
+use Rattle.slot_file.specs.Meaning.{AllYes, Groups, Stores, Locomotives, Refuses}
 use Rattle.slot_file.specs.Figures.{groupContributions, storeContributions, locomotiveContributions}
 use Rattle.slot_file.specs.Alike.{total}
 use Rattle.slot_file.proofs.Marks.{Different, different-short}
@@ -35,11 +35,20 @@ use Rattle.totals.proofs.Adding.{plus-room, plus-to-room}
 use Rattle.totals.proofs.Sums.{same-sums, plus-emitted, plus-all}
 use Rattle.walk.specs.Rows.{marksTo}
 use Rattle.walk.specs.Steps.{GroupStepped, StoreStepped, LocomotiveStepped}
-use Rattle.walk.specs.Walked.{sumsOf, plusGroup, GroupsPassed, GroupsEnded, recordEmission, storeEmission, plusStore, StoresPassed, StoresEnded, plusLocomotive, LocomotivesPassed, LocomotivesEnded}
+use Rattle.walk.specs.Walked.{sumsOf, ChainWalked, plusGroup, GroupsPassed, GroupsEnded, recordEmission, storeEmission, plusStore, StoresPassed, StoresEnded, plusLocomotive, LocomotivesPassed, LocomotivesEnded}
+use Rattle.walk.specs.declared.walked.Walked.{Walked}
 use Rattle.walk.specs.declared.group_chain.GroupStep.{GroupStep}
 use Rattle.walk.specs.declared.store_chain.StoreStep.{StoreStep}
 use Rattle.walk.specs.declared.locomotive_chain.LocomotiveStep.{LocomotiveStep}
 use Rattle.slot_file.proofs.Ranged.{group-answered, storeInRange, store-answered, locomotive-answered}
+
+-- a walk that a question ends, and one that goes to the end of its chain
+module _ {s : List ℕ} {Ended : Counts → Type 0} {r : Walked} where
+  pub walk-refused : (r .verdict .number ≡ 0 → ⊥) → Refuses s (r .verdict .number) (r .verdict .slot) → ChainWalked s Ended r
+  walk-refused z f = record { refuses = λ _. f; ended = λ y. absurd (z y) }
+
+  pub walk-ended : r .verdict .number ≡ 0 → Ended (r .counts) → ChainWalked s Ended r
+  walk-ended y e = record { refuses = λ z. absurd (z y); ended = λ _. e }
 
 -- adding keeps the room
 group-room : (summing : Bool) (l : List ℕ) (a : GroupAnswer) → length (plusGroup summing l a) ≡ length l

@@ -15,7 +15,7 @@ use Rattle.slot_file.proofs.Outcomes.{bytes-most}
 use Rattle.totals.specs.Totals.{Sums}
 use Rattle.totals.proofs.Sums.{no-sums}
 use Rattle.walk.specs.Walked.{plusGroup, GroupsPassed}
-use Rattle.walk.proofs.Passing.{groups-few, groups-ended, group-passed}
+use Rattle.walk.proofs.Passing.{walk-refused, walk-ended, groups-few, groups-ended, group-passed}
 use Rattle.walk.proofs.group_chain.walk_groups.Statement.{statement}
 use Rattle.walk.proofs.group_chain.walk_groups.Tie as tie
 
@@ -68,11 +68,10 @@ returns c =
     let d = c .before .before .before in
     let b = at-loop d in
     let p = b .loop .inv in
-    record {
-      refuses = λ z. at-group (groupsSoFar (p .gs)) (b .loop .link) (at-start b .pre .head) (p .chain) (d .before .before .before .loop-test .taken)
-          (d .step-group .ensures .told (groupsSoFar (p .gs)) (p .holds .sources-are) (p .holder-is) .first z);
-      ended = λ y. absurd (c .if1 .taken y);
-    }
+    let z = c .if1 .taken in
+    walk-refused z
+    (at-group (groupsSoFar (p .gs)) (b .loop .link) (at-start b .pre .head) (p .chain) (d .before .before .before .loop-test .taken)
+    (d .step-group .ensures .told (groupsSoFar (p .gs)) (p .holds .sources-are) (p .holder-is) .first z))
 
 add-counts : tie.Need-add-counts Inv-loop μ-loop
 add-counts c =
@@ -102,10 +101,7 @@ same-length-2 c = same-room (c .before)
 returns-2 : tie.Need-returns-2 Inv-loop μ-loop
 returns-2 c =
     let b = c .before in
-    record {
-      refuses = λ z. absurd (z refl);
-      ended = λ _. groups-ended _ (at-start b .pre .head) (b .loop .inv) (c .loop-test .left);
-    }
+    walk-ended refl (groups-ended _ (at-start b .pre .head) (b .loop .inv) (c .loop-test .left))
 
 pub walk-groups-spec : {M : Type 1} → statement M
 walk-groups-spec =

@@ -9,7 +9,7 @@ use Rattle.slot_file.specs.Questions.{mostSlots, storesSoFar, locomotivesSoFar}
 use Rattle.slot_file.specs.Meaning.{at-locomotive}
 use Rattle.slot_file.proofs.Outcomes.{bytes-most}
 use Rattle.walk.specs.Walked.{LocomotivesPassed}
-use Rattle.walk.proofs.Passing.{locomotives-few, locomotives-ended, locomotive-passed}
+use Rattle.walk.proofs.Passing.{walk-refused, walk-ended, locomotives-few, locomotives-ended, locomotive-passed}
 use Rattle.walk.proofs.locomotive_chain.walk_locomotives.Statement.{statement}
 use Rattle.walk.proofs.locomotive_chain.walk_locomotives.Tie as tie
 
@@ -58,11 +58,10 @@ returns c =
     let d = c .before .before .before in
     let b = at-loop d in
     let p = b .loop .inv in
-    record {
-      refuses = λ z. at-locomotive (p .c) (b .loop .link) (at-start b .pre .head) (p .group-chain) (p .store-chain) (p .chain)
-          (d .before .before .before .loop-test .taken) (d .step-locomotive .ensures .told (locomotivesSoFar (p .c) (p .c .locomotives)) (p .holds .sources-are) (p .holder-is) .first z);
-      ended = λ y. absurd (c .if1 .taken y);
-    }
+    let z = c .if1 .taken in
+    walk-refused z
+    (at-locomotive (p .c) (b .loop .link) (at-start b .pre .head) (p .group-chain) (p .store-chain) (p .chain)
+    (d .before .before .before .loop-test .taken) (d .step-locomotive .ensures .told (locomotivesSoFar (p .c) (p .c .locomotives)) (p .holds .sources-are) (p .holder-is) .first z))
 
 add-counts : tie.Need-add-counts Inv-loop μ-loop
 add-counts c =
@@ -88,10 +87,7 @@ same-length-2 c = same-room (c .before)
 returns-2 : tie.Need-returns-2 Inv-loop μ-loop
 returns-2 c =
     let b = c .before in
-    record {
-      refuses = λ z. absurd (z refl);
-      ended = λ _. locomotives-ended _ (at-start b .pre .head) (b .loop .inv) (c .loop-test .left);
-    }
+    walk-ended refl (locomotives-ended _ (at-start b .pre .head) (b .loop .inv) (c .loop-test .left))
 
 pub walk-locomotives-spec : {M : Type 1} → statement M
 walk-locomotives-spec =

@@ -9,7 +9,7 @@ use Rattle.slot_file.specs.Questions.{mostSlots, groupsSoFar, storesSoFar}
 use Rattle.slot_file.specs.Meaning.{at-store}
 use Rattle.slot_file.proofs.Outcomes.{bytes-most}
 use Rattle.walk.specs.Walked.{StoresPassed}
-use Rattle.walk.proofs.Passing.{stores-few, stores-ended, store-passed}
+use Rattle.walk.proofs.Passing.{walk-refused, walk-ended, stores-few, stores-ended, store-passed}
 use Rattle.walk.proofs.store_chain.walk_stores.Statement.{statement}
 use Rattle.walk.proofs.store_chain.walk_stores.Tie as tie
 
@@ -57,11 +57,10 @@ returns c =
     let d = c .before .before .before in
     let b = at-loop d in
     let p = b .loop .inv in
-    record {
-      refuses = λ z. at-store (p .c) (b .loop .link) (at-start b .pre .head) (p .group-chain) (p .chain)
-          (d .before .before .before .loop-test .taken) (d .step-store .ensures .told (storesSoFar (p .c) (p .c .stores)) (p .holds .sources-are) (p .holder-is) .first z);
-      ended = λ y. absurd (c .if1 .taken y);
-    }
+    let z = c .if1 .taken in
+    walk-refused z
+    (at-store (p .c) (b .loop .link) (at-start b .pre .head) (p .group-chain) (p .chain)
+    (d .before .before .before .loop-test .taken) (d .step-store .ensures .told (storesSoFar (p .c) (p .c .stores)) (p .holds .sources-are) (p .holder-is) .first z))
 
 add-counts : tie.Need-add-counts Inv-loop μ-loop
 add-counts c =
@@ -87,10 +86,7 @@ same-length-2 c = same-room (c .before)
 returns-2 : tie.Need-returns-2 Inv-loop μ-loop
 returns-2 c =
     let b = c .before in
-    record {
-      refuses = λ z. absurd (z refl);
-      ended = λ _. stores-ended _ (at-start b .pre .head) (b .loop .inv) (c .loop-test .left);
-    }
+    walk-ended refl (stores-ended _ (at-start b .pre .head) (b .loop .inv) (c .loop-test .left))
 
 pub walk-stores-spec : {M : Type 1} → statement M
 walk-stores-spec =
