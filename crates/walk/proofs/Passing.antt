@@ -4,6 +4,7 @@ use native.Mathlib.Omega.{arith}
 use mathlib.Core.Path.{_≡_, refl, sym, ap, subst, _∙_}
 use mathlib.Core.Bool.{Bool, true, false}
 use mathlib.Core.List.{List, [], _∷_, _++_}
+use lib.IntN.{ℤ}
 use lib.ListN.{getD, length, set, length-append}
 use Rattle.sums.specs.Choice.{if_then_else, listTo}
 use Rattle.sums.specs.Answer.{Contribution, emitted}
@@ -101,10 +102,11 @@ module _ (s : List ℕ) where
     pub group-passed : {summing : Bool} {sources sources′ reached reached′ : List Bool} {totals totals′ : List ℕ} {holder link : ℕ} {counts : Counts} {r : GroupStep}
         → GroupsPassed s summing sources reached totals holder link counts → (link ≡ 0 → ⊥)
         → GroupStepped s holder link sources sources′ reached reached′ r → r .verdict .number ≡ 0
-        → totals′ ≡ plusGroup summing totals (groupAnswer (r .group) (temperaturesAt s) (r .coefficients))
+        → (ts : List ℤ) → ts ≡ temperaturesAt s → totals′ ≡ plusGroup summing totals (groupAnswer (r .group) ts (r .coefficients))
         → GroupsPassed s summing sources′ reached′ totals′ link (r .next) (record { groups = counts .groups + 1; stores = counts .stores; locomotives = counts .locomotives })
     unfolding plusGroup if_then_else
-    group-passed {summing} {totals = totals} {link = g} {counts} {r} p z t y d =
+    group-passed {summing} {totals = totals} {link = g} {counts} {r} p z t y ts w f =
+        let d = f ∙ ap (λ (l : List ℤ). plusGroup summing totals (groupAnswer (r .group) l (r .coefficients))) w in
         let q = t .passed y in
         let h′ = p .holds in
         let n : counts .groups + 1 ≡ length (g ∷ p .gs) = omega (arith, ap (λ (m : Counts). m .groups) (h′ .counts-are)) in

@@ -3,10 +3,8 @@
 use native.Mathlib.Omega.{arith}
 use Prim.Native.Nat.{_-_}
 use mathlib.Core.Path.{_≡_, refl, sym, ap, subst, _∙_}
-use mathlib.Core.List.{List, []}
-use lib.IntN.{ℤ}
+use mathlib.Core.List.{[]}
 use lib.ListN.{length}
-use Rattle.vehicles.specs.Rules.{groupAnswer}
 use Rattle.slots.specs.declared.header.Header.{Header}
 use Rattle.slot_file.specs.Sources.{temperaturesAt}
 use Rattle.slot_file.specs.Questions.{mostSlots, reachedBy, groupsSoFar}
@@ -14,7 +12,7 @@ use Rattle.slot_file.specs.Meaning.{at-group}
 use Rattle.slot_file.proofs.Outcomes.{bytes-most}
 use Rattle.totals.specs.Totals.{Sums}
 use Rattle.totals.proofs.Sums.{no-sums}
-use Rattle.walk.specs.Walked.{plusGroup, GroupsPassed}
+use Rattle.walk.specs.Walked.{GroupsPassed}
 use Rattle.walk.proofs.Passing.{walk-refused, walk-ended, groups-few, groups-ended, group-passed}
 use Rattle.walk.proofs.group_chain.walk_groups.Statement.{statement}
 use Rattle.walk.proofs.group_chain.walk_groups.Tie as tie
@@ -90,10 +88,8 @@ loop-again c =
     let d = at-step l in
     let b = at-loop d in
     let a = at-start b in
-    let r = d .step-group .result in
-    let e = ap (λ (h : Header). h .temperatures) (a .pre .header) in
     group-passed _ (a .pre .head) (b .loop .inv) (d .before .before .before .loop-test .taken) (d .step-group .ensures) (l .before .before .if1 .left)
-    (l .add-group .ensures ∙ ap (λ (ts : List ℤ). plusGroup (a .args .summing) (b .loop .totals) (groupAnswer (r .group) ts (r .coefficients))) e)
+    (a .args .h .temperatures) (ap (λ (h : Header). h .temperatures) (a .pre .header)) (l .add-group .ensures)
 
 same-length-2 : tie.Need-same-length-2 Inv-loop μ-loop
 same-length-2 c = same-room (c .before)
