@@ -13,7 +13,7 @@ pub record Added (before : List ℕ) (at : ℕ) (after : List ℕ) (r : ℕ) (by
   pub stored : after ≡ sets before at bytes
   pub next : r ≡ at + length bytes
 
--- room for any listing, which a code's line takes the most of: the longest listing has 526 bytes
+-- room for any listing, which a code's line takes the most of: the longest listing has 532 bytes
 abbrev pub listingRoom : ℕ
 listingRoom = 64 * codeCount
 

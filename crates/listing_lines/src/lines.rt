@@ -55,7 +55,9 @@ pub fn put_listing(out: &mut [u8; LISTING_ROOM], a: Answer) -> usize
     let at = text::put_text(out, 0, b"code t/year g/s\n");
     let at = put_lines(out, at, a);
     let at = text::put_text(out, at, b"sources ");
-    put_pair(out, at, a.counts.groups as u64, a.counts.stores as u64)
+    let at = numbers::put_decimal(out, at, a.counts.groups as u64);
+    let at = text::put_byte(out, at, b' ');
+    put_pair(out, at, a.counts.stores as u64, a.counts.locomotives as u64)
 }
 
 fn put_refusal(out: &mut [u8; LISTING_ROOM], number: u8, slot: u16) -> usize

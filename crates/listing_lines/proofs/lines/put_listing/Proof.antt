@@ -8,16 +8,23 @@ use Rattle.listing_lines.proofs.lines.put_listing.Tie as tie
 returns : tie.Need-returns
 unfolding listing text
 returns c =
-    let s = c .before .before .before .before in
+    let p = c .before .before .before .before in
+    let g = p .before .before in
+    let s = g .before .before .before in
     let l = s .before .before .before in
     let h = l .before .before in
     let a = h .before .before .before .args .a in
-    (paired (a .counts .groups) (a .counts .stores) (then (then (h .put-text .ensures) (l .put-lines .ensures .0)) (s .put-text2 .ensures)) (c .put-pair .ensures .0), omega arith)
+    let named = then (then (h .put-text .ensures) (l .put-lines .ensures .0)) (s .put-text2 .ensures) in
+    let counted = then (then named (g .put-decimal .ensures .0)) (p .put-byte .ensures) in
+    (paired (a .counts .stores) (a .counts .locomotives) counted (c .put-pair .ensures .0), omega arith)
 
 pub put-listing-spec : {M : Type 1} → statement M
 put-listing-spec =
     tie.close
     (tie.spec
+    (omega arith)
+    (omega arith)
+    (omega arith)
     (omega arith)
     (omega arith)
     (omega arith)
