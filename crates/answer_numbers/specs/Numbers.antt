@@ -52,15 +52,19 @@ emissionsNumbers (e ∷ es) = emissionNumbers e ++ emissionsNumbers es
 abbrev pub ruleNumbers : Verdict → List Emission → List ℕ
 ruleNumbers v es = v .number ∷ v .slot ∷ emissionsNumbers es
 
+-- and how many numbers these are of so many emissions
+abbrev pub ruleSize : ℕ → ℕ
+ruleSize n = 2 + emissionSize * n
+
 -- a store record gives to the code of its dust alone, a group to the codes of its emissions
 abbrev pub storeNumbers : StoreAnswer → List ℕ
 storeNumbers a = ruleNumbers (a .verdict) (a .emission ∷ [])
 
 abbrev pub storeSize : ℕ
-storeSize = 2 + emissionSize
+storeSize = ruleSize 1
 
 abbrev pub groupNumbers : GroupAnswer → List ℕ
 groupNumbers a = ruleNumbers (a .verdict) (a .emissions)
 
 abbrev pub groupSize : ℕ
-groupSize = 2 + emissionSize * emissionCount
+groupSize = ruleSize emissionCount

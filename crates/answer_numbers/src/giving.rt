@@ -3,6 +3,8 @@ ghost use Rattle.answer_numbers.specs.Numbers.{numbersOf, answerSize, st
 use super::numbers;
 use slot_file::Answer;
 use stores::StoreAnswer;
+use sums::Emission;
+use vehicles::EMISSIONS;
 use vehicles::GroupAnswer;
 
 // Of a file's answer.
@@ -17,16 +19,17 @@ pub fn give_answer(a: Answer, out: &mut [u64]) -> bool
 pub fn give_store(a: StoreAnswer, out: &mut [u64]) -> bool
     ensures { λ r. ⌜ Given storeSize (storeNumbers a) (now (out .entry)) r (now (out .exit)) ⌝ }
 {
-    let n = numbers::store_numbers(a);
-    numbers::give(&n, out)
+    let e = a.emission;
+    let none = Emission::none();
+    let mut es = [none; EMISSIONS];
+    es[0] = e;
+    numbers::give_rule(a.verdict, es, 1, out)
 }
 
 // Of what the rule of vehicle groups answers.
 pub fn give_group(a: GroupAnswer, out: &mut [u64]) -> bool
     ensures { λ r. ⌜ Given groupSize (groupNumbers a) (now (out .entry)) r (now (out .exit)) ⌝ }
 {
-    let v = a.verdict;
     let es = a.emissions;
-    let n = numbers::group_numbers(v, es);
-    numbers::give(&n, out)
+    numbers::give_rule(a.verdict, es, EMISSIONS, out)
 }

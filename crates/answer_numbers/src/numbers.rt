@@ -1,24 +1,20 @@
 // Answers as numbers, and numbers in a caller's memory.
 ghost use mathlib.Core.Path.{_≡_};
 ghost use Prim.Native.Nat.{_+_, _≤_};
-ghost use lib.ListN.{length};
+ghost use lib.ListN.{length, take};
 ghost use lib.Seq.{sets};
-ghost use Rattle.answer_numbers.specs.Numbers.{Given, numbersOf, emissionNumbers, ruleNumbers, storeNumbers};
+ghost use Rattle.vehicles.specs.Rules.{emissionCount};
+ghost use Rattle.answer_numbers.specs.Numbers.{Given, numbersOf, emissionNumbers, emissionsNumbers, ruleNumbers, ruleSize};
 use slot_file::Answer;
 use slot_file::COUNT;
-use stores::StoreAnswer;
 use sums::Emission;
 use sums::Verdict;
 use vehicles::EMISSIONS;
 
-// How many numbers there are of an answer, of an emission, and of what the rules answer.
+// How many numbers there are of an answer, and of an emission.
 const ANSWER_SIZE: usize = 4 + 2 * COUNT;
 
 const EMISSION_SIZE: usize = 5;
-
-const STORE_SIZE: usize = 2 + EMISSION_SIZE;
-
-const GROUP_SIZE: usize = 2 + EMISSION_SIZE * EMISSIONS;
 
 // Numbers from a place of a buffer on, which has room for them.
 fn put_numbers(numbers: &[u64], out: &mut [u64], from: usize)
@@ -74,30 +70,30 @@ fn emission_numbers(e: Emission) -> [u64; EMISSION_SIZE]
     ]
 }
 
-pub(crate) fn store_numbers(a: StoreAnswer) -> [u64; STORE_SIZE]
-    ensures { λ r. ⌜ r ≡ storeNumbers a ⌝ }
+// The numbers of the first n emissions, after the first two numbers.
+fn put_emissions(es: [Emission; EMISSIONS], n: usize, out: &mut [u64])
+    requires { ⌜ (n ≤ emissionCount) × (ruleSize n ≤ length (now out)) ⌝ }
+    ensures { λ _. ⌜ now (out .exit) ≡ sets (now (out .entry)) 2 (emissionsNumbers (take n es)) ⌝ }
 {
-    let e = a.emission;
-    let x = emission_numbers(e);
-    let mut numbers = [0; STORE_SIZE];
-    numbers[0] = a.verdict.number as u64;
-    numbers[1] = a.verdict.slot as u64;
-    put_numbers(&x, &mut numbers, 2);
-    numbers
-}
-
-pub(crate) fn group_numbers(v: Verdict, es: [Emission; EMISSIONS]) -> [u64; GROUP_SIZE]
-    ensures { λ r. ⌜ r ≡ ruleNumbers v es ⌝ }
-{
-    let mut numbers = [0; GROUP_SIZE];
-    numbers[0] = v.number as u64;
-    numbers[1] = v.slot as u64;
     let mut p = 0;
-    while p < EMISSIONS {
+    while p < n {
         let e = es[p];
         let x = emission_numbers(e);
-        put_numbers(&x, &mut numbers, 2 + EMISSION_SIZE * p);
+        put_numbers(&x, out, 2 + EMISSION_SIZE * p);
         p += 1;
     }
-    numbers
+}
+
+// The numbers of a rule's answer with the first n emissions, at the start of `out` in the same way.
+pub(crate) fn give_rule(v: Verdict, es: [Emission; EMISSIONS], n: usize, out: &mut [u64]) -> bool
+    requires { ⌜ n ≤ emissionCount ⌝ }
+    ensures { λ r. ⌜ Given (ruleSize n) (ruleNumbers v (take n es)) (now (out .entry)) r (now (out .exit)) ⌝ }
+{
+    if out.len() < 2 + EMISSION_SIZE * n {
+        return false;
+    }
+    let verdict = [v.number as u64, v.slot as u64];
+    put_numbers(&verdict, out, 0);
+    put_emissions(es, n, out);
+    true
 }

@@ -19,15 +19,14 @@ at-first c = c .before .before .before .before .before
 abbrev at-start : tie.After-numbers → tie.Start
 at-start c = at-first c .before .before .before
 
+lengths : (s : tie.Start) → (length (s .args .a .annual) ≡ codeCount) × (length (s .args .a .peak) ≡ codeCount)
+lengths s = (search needs, search needs)
+
 put-numbers-requires : tie.Need-put-numbers-requires
-put-numbers-requires c κs =
-    let l : length (at-start c .args .a .annual) ≡ codeCount = search needs in
-    omega arith
+put-numbers-requires c κs = let l = lengths (at-start c) in omega arith
 
 put-numbers-requires-2 : tie.Need-put-numbers-requires-2
-put-numbers-requires-2 c κs =
-    let l : length (at-start (c .before .before .before .before) .args .a .peak) ≡ codeCount = search needs in
-    omega arith
+put-numbers-requires-2 c κs = let l = lengths (at-start (c .before .before .before .before)) in omega arith
 
 returns : tie.Need-returns
 returns c =
@@ -35,8 +34,7 @@ returns c =
     let s = at-start (p .before) in
     let x = s .args .a .annual in
     let y = s .args .a .peak in
-    let l : length x ≡ codeCount = search needs in
-    let m : length y ≡ codeCount = search needs in
+    let l = lengths s in
     let d =
     then {a = x} {b = y} {i = 4} {j = 4 + codeCount} {k = answerSize} (record { stored = p .put-numbers .ensures; next = omega arith })
     (record { stored = c .before .put-numbers2 .ensures; next = omega arith }) in
