@@ -12,6 +12,8 @@ use Rattle.sums.specs.declared.answer.Emission.{Emission}
 use Rattle.stores.specs.declared.rules.StoreAnswer.{StoreAnswer}
 use Rattle.vehicles.specs.Rules.{emissionCount}
 use Rattle.vehicles.specs.declared.rule.GroupAnswer.{GroupAnswer}
+use Rattle.locomotives.specs.Rules.{substanceCount}
+use Rattle.locomotives.specs.declared.rule.LocomotiveAnswer.{LocomotiveAnswer}
 use Rattle.slot_file.specs.Codes.{codeCount}
 use Rattle.slot_file.specs.declared.Answer.{Answer}
 
@@ -19,13 +21,13 @@ use Rattle.slot_file.specs.declared.Answer.{Answer}
 abbrev pub packed : Verdict → ℕ
 packed v = 65536 * v .number + v .slot
 
--- number, slot, groups, store records, the annual figures by code, the peak figures by code
+-- number, slot, groups, store records, locomotives, the annual figures by code, the peak figures by code
 abbrev pub numbersOf : Answer → List ℕ
-numbersOf a = a .number ∷ a .slot ∷ a .counts .groups ∷ a .counts .stores ∷ (a .annual ++ a .peak)
+numbersOf a = a .number ∷ a .slot ∷ a .counts .groups ∷ a .counts .stores ∷ a .counts .locomotives ∷ (a .annual ++ a .peak)
 
 -- and how many numbers these are
 abbrev pub answerSize : ℕ
-answerSize = 4 + 2 * codeCount
+answerSize = 5 + 2 * codeCount
 
 -- the numbers at the start of a buffer, where they fit, and nothing else changed
 unfoldable pub into : List ℕ → List ℕ → List ℕ
@@ -56,7 +58,7 @@ ruleNumbers v es = v .number ∷ v .slot ∷ emissionsNumbers es
 abbrev pub ruleSize : ℕ → ℕ
 ruleSize n = 2 + emissionSize * n
 
--- a store record gives to the code of its dust alone, a group to the codes of its emissions
+-- a store record gives to the code of its dust alone, a group and a locomotive to the codes of their emissions
 abbrev pub storeNumbers : StoreAnswer → List ℕ
 storeNumbers a = ruleNumbers (a .verdict) (a .emission ∷ [])
 
@@ -68,3 +70,9 @@ groupNumbers a = ruleNumbers (a .verdict) (a .emissions)
 
 abbrev pub groupSize : ℕ
 groupSize = ruleSize emissionCount
+
+abbrev pub locomotiveNumbers : LocomotiveAnswer → List ℕ
+locomotiveNumbers a = ruleNumbers (a .verdict) (a .emissions)
+
+abbrev pub locomotiveSize : ℕ
+locomotiveSize = ruleSize substanceCount

@@ -1,6 +1,7 @@
 // The numbers of an answer at the start of `out`; false, and nothing written, where it has room for fewer.
-ghost use Rattle.answer_numbers.specs.Numbers.{numbersOf, answerSize, storeNumbers, storeSize, groupNumbers, groupSize, Given};
+ghost use Rattle.answer_numbers.specs.Numbers.{numbersOf, answerSize, storeNumbers, storeSize, groupNumbers, groupSize, locomotiveNumbers, locomotiveSize, Given};
 use super::numbers;
+use locomotives::LocomotiveAnswer;
 use slot_file::Answer;
 use stores::StoreAnswer;
 use sums::Emission;
@@ -32,4 +33,17 @@ pub fn give_group(a: GroupAnswer, out: &mut [u64]) -> bool
 {
     let es = a.emissions;
     numbers::give_rule(a.verdict, es, EMISSIONS, out)
+}
+
+// Of what the rule of locomotives answers.
+pub fn give_locomotive(a: LocomotiveAnswer, out: &mut [u64]) -> bool
+    ensures { λ r. ⌜ Given locomotiveSize (locomotiveNumbers a) (now (out .entry)) r (now (out .exit)) ⌝ }
+{
+    let given = a.emissions;
+    let none = Emission::none();
+    let mut es = [none; EMISSIONS];
+    es[0] = given[0];
+    es[1] = given[1];
+    es[2] = given[2];
+    numbers::give_rule(a.verdict, es, locomotives::EMISSIONS, out)
 }

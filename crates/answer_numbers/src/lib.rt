@@ -4,4 +4,5 @@ mod numbers;
 
 pub use giving::give_answer;
 pub use giving::give_group;
+pub use giving::give_locomotive;
 pub use giving::give_store;

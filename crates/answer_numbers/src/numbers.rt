@@ -12,7 +12,7 @@ use sums::Verdict;
 use vehicles::EMISSIONS;
 
 // How many numbers there are of an answer, and of an emission.
-const ANSWER_SIZE: usize = 4 + 2 * COUNT;
+const ANSWER_SIZE: usize = 5 + 2 * COUNT;
 
 const EMISSION_SIZE: usize = 5;
 
@@ -49,8 +49,9 @@ pub(crate) fn numbers_of(a: Answer) -> [u64; ANSWER_SIZE]
     numbers[1] = a.slot as u64;
     numbers[2] = a.counts.groups as u64;
     numbers[3] = a.counts.stores as u64;
-    put_numbers(&x, &mut numbers, 4);
-    put_numbers(&y, &mut numbers, 4 + COUNT);
+    numbers[4] = a.counts.locomotives as u64;
+    put_numbers(&x, &mut numbers, 5);
+    put_numbers(&y, &mut numbers, 5 + COUNT);
     numbers
 }
 

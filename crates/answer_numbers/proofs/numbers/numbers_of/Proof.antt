@@ -1,4 +1,4 @@
--- Four numbers, and after them the figures as they stand.
+-- Five numbers, and after them the figures as they stand.
 use borrow.Author.Needs.{needs}
 use native.Mathlib.Omega.{arith}
 use Prim.Native.Nat.{_+_}
@@ -12,9 +12,9 @@ use Rattle.answer_numbers.specs.Numbers.{answerSize}
 use Rattle.answer_numbers.proofs.numbers.numbers_of.Statement.{statement}
 use Rattle.answer_numbers.proofs.numbers.numbers_of.Tie as tie
 
--- back from where the first four numbers stand to where they are begun, and to the start
+-- back from where the first five numbers stand to where they are begun, and to the start
 abbrev at-first : tie.After-numbers → tie.After-struct-known
-at-first c = c .before .before .before .before .before
+at-first c = c .before .before .before .before .before .before
 
 abbrev at-start : tie.After-numbers → tie.Start
 at-start c = at-first c .before .before .before
@@ -36,12 +36,12 @@ returns c =
     let y = s .args .a .peak in
     let l = lengths s in
     let d =
-    then {a = x} {b = y} {i = 4} {j = 4 + codeCount} {k = answerSize} (record { stored = p .put-numbers .ensures; next = omega arith })
+    then {a = x} {b = y} {i = 5} {j = 5 + codeCount} {k = answerSize} (record { stored = p .put-numbers .ensures; next = omega arith })
     (record { stored = c .before .put-numbers2 .ensures; next = omega arith }) in
-    d .stored ∙ sets-eq (x ++ y) _ 4 (omega arith) ∙ rw (← d .next, append-nil (x ++ y))
+    d .stored ∙ sets-eq (x ++ y) _ 5 (omega arith) ∙ rw (← d .next, append-nil (x ++ y))
 
 pub numbers-of-spec : {M : Type 1} → statement M
 numbers-of-spec =
     tie.close
-    (tie.spec (omega arith) (omega arith) (omega arith) (omega arith) (omega arith) (omega arith) (omega arith) (omega arith) (λ c. search needs) (omega arith)
+    (tie.spec (omega arith) (omega arith) (omega arith) (omega arith) (omega arith) (omega arith) (omega arith) (omega arith) (omega arith) (omega arith) (λ c. search needs) (omega arith)
     put-numbers-requires (λ c. search needs) (λ c. search needs) (omega arith) put-numbers-requires-2 returns)
