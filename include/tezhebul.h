@@ -15,13 +15,13 @@ extern "C" {
 
 /* Files.
 
-   Numbers of an answer: number and slot (0 and 0 of an accepted file), groups, store records, ten annual figures in millionths of a tonne, ten peak figures in
-   ten-millionths of a gram per second, by the codes 0152 0184 0301 0328 0330 0337 2704 2754 2908 2909. */
+   Numbers of an answer: number and slot (0 and 0 of an accepted file), groups, store records, locomotives, ten annual figures in millionths of a tonne, ten peak
+   figures in ten-millionths of a gram per second, by the codes 0152 0184 0301 0328 0330 0337 2704 2754 2908 2909. */
 #define TEZHEBUL_CODES 10
-#define TEZHEBUL_NUMBERS (4 + 2 * TEZHEBUL_CODES)
+#define TEZHEBUL_NUMBERS (5 + 2 * TEZHEBUL_CODES)
 
 /* No listing is longer. */
-#define TEZHEBUL_LISTING_MOST 526
+#define TEZHEBUL_LISTING_MOST 532
 
 /* 0 of an accepted file, and else 65,536 times the refusal's number, plus its slot. */
 uint32_t tezhebul_check(const uint8_t *file, size_t file_length);
@@ -35,8 +35,8 @@ size_t tezhebul_list(const uint8_t *file, size_t file_length, uint8_t *buffer, s
 
 /* Rules.
 
-   What one source gives, exactly and not rounded. Each writes its numbers to the start of `out`: the number (0, or 9 where a field is out of range, or 11) and a
-   slot, always 0; then each emission. A refusal has zeros for all else. An emission is five numbers:
+   What one source gives, exactly and not rounded. Each writes its numbers to the start of `out`: the number (0, or 9 where a field is out of range, or 11 or 14)
+   and a slot, always 0; then each emission. A refusal has zeros for all else. An emission is five numbers:
 
      the substance code,
      the year's mass: whole millionths of a tonne, and a part of one over TEZHEBUL_ANNUAL_DENOMINATOR,
@@ -50,6 +50,8 @@ size_t tezhebul_list(const uint8_t *file, size_t file_length, uint8_t *buffer, s
 #define TEZHEBUL_STORE_NUMBERS (2 + TEZHEBUL_EMISSION_NUMBERS)
 #define TEZHEBUL_EMISSIONS 6
 #define TEZHEBUL_GROUP_NUMBERS (2 + TEZHEBUL_EMISSIONS * TEZHEBUL_EMISSION_NUMBERS)
+#define TEZHEBUL_LOCOMOTIVE_EMISSIONS 3
+#define TEZHEBUL_LOCOMOTIVE_NUMBERS (2 + TEZHEBUL_LOCOMOTIVE_EMISSIONS * TEZHEBUL_EMISSION_NUMBERS)
 #define TEZHEBUL_ANNUAL_DENOMINATOR UINT64_C(20000000000000)
 #define TEZHEBUL_PEAK_DENOMINATOR UINT64_C(72000000)
 
@@ -105,6 +107,17 @@ bool tezhebul_aspiration(uint8_t dust, uint16_t store, uint32_t concentration, u
 bool tezhebul_group(uint8_t category, uint8_t fuel, uint8_t flags, uint16_t vehicles, uint16_t leaving, uint8_t share, uint8_t running, uint8_t warming,
                     uint32_t idle, const uint32_t *distances, size_t distances_length, const uint8_t *days, size_t days_length, const int16_t *temperatures,
                     size_t temperatures_length, const uint32_t *coefficients, size_t coefficients_length, uint64_t *out, size_t out_length);
+
+/* Locomotives: three emissions, CO, NO2, soot. 14 where each field is in range and the five shares do not total 1,000. False, and nothing written, where `out`
+   has room for fewer than TEZHEBUL_LOCOMOTIVE_NUMBERS.
+
+     model           1 TGM6, 2 TGM4, 3 TGM3, 4 TU4 or TGK2
+     idle .. full    thousandths of the time at idle, at 25 %, 50 %, 75 % of the power and at full power, 0 to 1,000 each
+     hours           in a year, 0 to 8,784
+     old             1 where it is over two years old, else 0
+     zone            1 south of 44 degrees, 2 others, 3 north of 60 degrees */
+bool tezhebul_locomotive(uint8_t model, uint16_t idle, uint16_t quarter, uint16_t half, uint16_t three_quarters, uint16_t full, uint16_t hours, uint8_t old,
+                         uint8_t zone, uint64_t *out, size_t out_length);
 
 #ifdef __cplusplus
 }

@@ -16,6 +16,7 @@ use Rattle.vehicle_fields.specs.declared.group.Group.{Group}
 use Rattle.vehicle_fields.specs.declared.group.Coefficients.{Coefficients}
 use Rattle.vehicles.specs.Rules.{groupRefusal}
 use Rattle.vehicles.specs.declared.rule.GroupAnswer.{GroupAnswer}
+use Rattle.locomotives.specs.declared.fields.Locomotive.{Locomotive}
 
 abbrev pub bulkOf : ℕ → ℕ → ℕ → ℕ → ℕ → ℕ → ℕ → ℕ → Bulk
 bulkOf dust store material wind moisture grain openness amount = record {
@@ -98,3 +99,13 @@ groupOf category fuel flags vehicles leaving share running warming idle distance
 -- "the others zero": flags of which another bit is set are out of range
 unfoldable pub flagged : ℕ → GroupAnswer → GroupAnswer
 flagged flags a = if_then_else (leb flags 3) a (groupRefusal 9)
+
+-- a locomotive; "five 16-bit time shares ... idle to full power"
+abbrev pub locomotiveOf : ℕ → ℕ → ℕ → ℕ → ℕ → ℕ → ℕ → ℕ → ℕ → Locomotive
+locomotiveOf model idle quarter half threeQuarters full hours old zone = record {
+  model = model;
+  shares = idle ∷ quarter ∷ half ∷ threeQuarters ∷ full ∷ [];
+  hours = hours;
+  old = old;
+  zone = zone;
+}

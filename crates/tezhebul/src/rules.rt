@@ -2,10 +2,12 @@
 ghost use mathlib.Core.Path.{_≡_};
 ghost use Rattle.stores.specs.Rules.{handlingAnswer, standingAnswer, aspirationAnswer};
 ghost use Rattle.vehicles.specs.Rules.{groupAnswer};
-ghost use Rattle.answer_numbers.specs.Numbers.{storeNumbers, storeSize, Given};
-ghost use Rattle.tezhebul.specs.Fields.{handlingOf, standingOf, aspirationOf, groupOf, flagged};
+ghost use Rattle.locomotives.specs.Rules.{locomotiveAnswer};
+ghost use Rattle.answer_numbers.specs.Numbers.{storeNumbers, storeSize, locomotiveNumbers, locomotiveSize, Given};
+ghost use Rattle.tezhebul.specs.Fields.{handlingOf, standingOf, aspirationOf, groupOf, flagged, locomotiveOf};
 ghost use Rattle.tezhebul.specs.Memory.{GroupGiven};
 use super::fields;
+use locomotives::Locomotive;
 use store_records::Aspiration;
 use store_records::Handling;
 use store_records::Standing;
@@ -148,4 +150,33 @@ pub extern "C" fn tezhebul_group(
     } else {
         false
     }
+}
+
+// The numbers of what a locomotive gives of each substance; false, and nothing written, where `out` has room for fewer.
+#[no_mangle]
+pub extern "C" fn tezhebul_locomotive(
+    model: u8,
+    idle: u16,
+    quarter: u16,
+    half: u16,
+    three_quarters: u16,
+    full: u16,
+    hours: u16,
+    old: u8,
+    zone: u8,
+    out: &mut [u64],
+) -> bool
+    ensures { λ r. ⌜ Given locomotiveSize (locomotiveNumbers (locomotiveAnswer (locomotiveOf model idle quarter half «three_quarters» full hours old zone))) (now (out .entry)) r (now (out .exit)) ⌝ }
+{
+    let shares = [idle, quarter, half, three_quarters, full];
+    answer_numbers::give_locomotive(
+        locomotives::locomotive_emissions(Locomotive {
+            model,
+            shares,
+            hours,
+            old,
+            zone,
+        }),
+        out,
+    )
 }
