@@ -25,6 +25,7 @@ pub(crate) fn run(r: &Record) -> [Emission; EMISSIONS] {
         2 => store(stores::standing_emission(fields::standing(r)), times),
         3 => store(stores::aspiration_emission(fields::aspiration(r)), times),
         4 => group(r, times),
+        6 => locomotive(r, times),
         _ => both_sums(r),
     }
 }
@@ -56,6 +57,20 @@ fn group(r: &Record, times: u16) -> [Emission; EMISSIONS] {
     if times > 0 {
         printing::added(times);
         printing::all_sums(total);
+    }
+    total
+}
+
+fn locomotive(r: &Record, times: u16) -> [Emission; EMISSIONS] {
+    let answer = locomotives::locomotive_emissions(fields::locomotive(r));
+    let verdict = answer.verdict;
+    let emissions = answer.emissions;
+    printing::verdict(verdict);
+    printing::three_emissions(emissions);
+    let total = totals::repeated(totals::first_three(emissions), times);
+    if times > 0 {
+        printing::added(times);
+        printing::three_sums(total);
     }
     total
 }

@@ -6,6 +6,7 @@ use super::numbers::is_at;
 use super::numbers::u8_at;
 use super::numbers::u16_at;
 use super::numbers::u32_at;
+use locomotives::Locomotive;
 use store_records::Aspiration;
 use store_records::Bulk;
 use store_records::Handling;
@@ -148,4 +149,21 @@ pub(crate) fn coefficients(r: &Record) -> [Coefficients; POLLUTANTS] {
         pollutant(r, 220),
         pollutant(r, 248),
     ]
+}
+
+pub(crate) fn locomotive(r: &Record) -> Locomotive {
+    let shares = [
+        u16_at(r, 44),
+        u16_at(r, 46),
+        u16_at(r, 48),
+        u16_at(r, 50),
+        u16_at(r, 52),
+    ];
+    Locomotive {
+        model: u8_at(r, 40),
+        shares,
+        hours: u16_at(r, 54),
+        old: u8_at(r, 41),
+        zone: u8_at(r, 42),
+    }
 }

@@ -59,10 +59,14 @@ pub(crate) fn sums(e: Emission) {
     line_end();
 }
 
-pub(crate) fn all_sums(six: [Emission; EMISSIONS]) {
+pub(crate) fn three_sums(six: [Emission; EMISSIONS]) {
     sums(six[0]);
     sums(six[1]);
     sums(six[2]);
+}
+
+pub(crate) fn all_sums(six: [Emission; EMISSIONS]) {
+    three_sums(six);
     sums(six[3]);
     sums(six[4]);
     sums(six[5]);
@@ -72,6 +76,12 @@ pub(crate) fn emission(e: Emission) {
     number(e.code as u64);
     space();
     sums(e);
+}
+
+pub(crate) fn three_emissions(three: [Emission; locomotives::EMISSIONS]) {
+    emission(three[0]);
+    emission(three[1]);
+    emission(three[2]);
 }
 
 pub(crate) fn all_emissions(six: [Emission; EMISSIONS]) {

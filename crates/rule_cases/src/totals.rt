@@ -14,6 +14,15 @@ pub(crate) fn first(e: Emission) -> [Emission; EMISSIONS] {
     six
 }
 
+// Three emissions, likewise.
+pub(crate) fn first_three(three: [Emission; locomotives::EMISSIONS]) -> [Emission; EMISSIONS] {
+    let mut six = zero();
+    six[0] = three[0];
+    six[1] = three[1];
+    six[2] = three[2];
+    six
+}
+
 // The code is of no account here.
 fn plus(a: Emission, b: Emission) -> Emission {
     let annual = a.annual;
