@@ -24,6 +24,7 @@ fn of_source(function: u8, all: &[u8; ROOM], out: &mut [u64]) -> bool {
         4 => handling(all, out),
         5 => standing(all, out),
         6 => aspiration(all, out),
+        8 => locomotive(all, out),
         _ => group(all, out),
     }
 }
@@ -84,6 +85,21 @@ fn aspiration(all: &[u8; ROOM], out: &mut [u64]) -> bool {
         u32_at(all, 7),
         u16_at(all, 11),
         u16_at(all, 13),
+        out,
+    )
+}
+
+fn locomotive(all: &[u8; ROOM], out: &mut [u64]) -> bool {
+    rules::tezhebul_locomotive(
+        u8_at(all, 0),
+        u16_at(all, 1),
+        u16_at(all, 3),
+        u16_at(all, 5),
+        u16_at(all, 7),
+        u16_at(all, 9),
+        u16_at(all, 11),
+        u8_at(all, 13),
+        u8_at(all, 14),
         out,
     )
 }

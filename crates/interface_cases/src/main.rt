@@ -3,12 +3,12 @@
 // A case is a head of 44 bytes and its arguments, numbers little-endian, other bytes zero:
 //
 //     0..31   label, ASCII, padded with spaces
-//     32      function: 1 check, 2 answer, 3 list, 4 handling, 5 standing, 6 aspiration, 7 group
+//     32      function: 1 check, 2 answer, 3 list, 4 handling, 5 standing, 6 aspiration, 7 group, 8 locomotive
 //     34..35  how many numbers are lent, of 40
 //     36..37  how many bytes are lent, of 600
 //     40..43  the length of the arguments
 //
-// The arguments of 1 to 3 are a file. Those of 4 to 7 are the numbers before the first slice, in the order and with the widths that include/tezhebul.h has them in; those
+// The arguments of 1 to 3 are a file. Those of 4 to 8 are the numbers before the first slice, in the order and with the widths that include/tezhebul.h has them in; those
 // of a group go on with the lengths of its four slices, a byte each, and then the slices, with room for one element more than each has to have: 5 distances, 13 days, 13
 // temperatures, 43 coefficients.
 //
