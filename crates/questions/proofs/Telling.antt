@@ -1,5 +1,5 @@
 -- What a list of questions is told, by an answer at hand and along an append of lists. Assumes nothing.
-use Prim.Native.Nat.{ℕ, _+_, _<_, _≤_}
+use Prim.Native.Nat.{ℕ, zero, suc, _+_, _<_, _≤_}
 use native.Mathlib.Omega.{arith}
 use mathlib.Core.Path.{_≡_, refl, sym, ap, _∙_}
 use mathlib.Core.Bool.{Bool, true, false, _&&_, not}
@@ -10,17 +10,18 @@ use native.Mathlib.Decide.{decLt}
 use borrow.Author.Tests.{lt-ltb, ltb-true, eq-eqb, ne-eqb}
 use Rattle.sums.specs.Choice.{if_then_else}
 use Rattle.sums.specs.declared.answer.Verdict.{Verdict}
-use Rattle.sums.proofs.Choices.{right}
+use Rattle.sums.proofs.Choices.{left, right}
 use Rattle.slots.specs.Bytes.{slotOf, numberOf}
 use Rattle.slots.specs.Layout.{coefficientsRead}
 use Rattle.slots.specs.declared.coefficients.CoefficientsRead.{CoefficientsRead}
 use Rattle.slot_file.specs.Sources.{coefficientSlot}
-use Rattle.slot_file.specs.Questions.{mostSlots, Question, question, slotCount, member, linkAsks, coefficientHolder, coefficientAsks}
+use Rattle.slot_file.specs.Questions.{mostSlots, Question, question, slotCount, member, linkAsks, coefficientHolder, coefficientAsks, reachAsks}
 use Rattle.slot_file.specs.Meaning.{AllYes, FirstNo, here, later}
 use Rattle.slot_file.proofs.Asking.{all-append, no-before, no-after}
 use Rattle.slot_file.proofs.Marks.{marks-member}
+use Rattle.slot_file.specs.Alike.{all}
 use Rattle.slot_file.specs.Parts.{marksOf}
-use Rattle.questions.specs.Told.{asked, Told, linkAsked, rowAsked}
+use Rattle.questions.specs.Told.{toldBy, asked, Told, linkAsked, rowAsked}
 
 pub told-no : {qs : List Question} {v : Verdict} (n k : ℕ) → v ≡ record { number = n; slot = k } → (n ≡ 0 → ⊥) → FirstNo qs n k → Told qs v
 told-no n k e z f = rw e (record { all = λ y. absurd (z y); first = λ _. f })
@@ -86,21 +87,36 @@ below-most k n l = go (ltb k n) refl
 
 -- what the questions qs are told, all of them are: those before qs were answered yes
 pub record Rest (qs whole : List Question) : Type 0 where
-  pub all : AllYes qs → AllYes whole
-  pub first : (n k : ℕ) → FirstNo qs n k → FirstNo whole n k
+  pub same : toldBy whole ≡ toldBy qs
 
 pub rest-whole : {qs : List Question} → Rest qs qs
-rest-whole = record { all = λ a. a; first = λ n k f. f }
+rest-whole = record { same = refl }
 
 pub rest-on : {q : Question} {qs whole : List Question} → q .yes ≡ true → Rest (q ∷ qs) whole → Rest qs whole
-rest-on e r = record { all = λ a. r .all (e, a); first = λ n k f. r .first n k (later _ _ e f) }
+unfolding toldBy if_then_else
+rest-on {q} {qs} e r = record { same = r .same ∙ ap (λ (b : Bool). if_then_else b (toldBy qs) (record { number = q .number; slot = q .slot })) e }
 
 -- the next one is answered no, and all are answered yes
-pub told-here : {q : Question} {qs whole : List Question} {v : Verdict} → v ≡ record { number = q .number; slot = q .slot } → 0 < q .number → q .yes ≡ false → Rest (q ∷ qs) whole → Told whole v
-told-here e p n r = told-no _ _ e (λ z. omega arith) (r .first _ _ (here _ _ n))
+pub told-here : {q : Question} {qs whole : List Question} {v : Verdict} → v ≡ record { number = q .number; slot = q .slot } → q .yes ≡ false → Rest (q ∷ qs) whole → v ≡ toldBy whole
+unfolding toldBy if_then_else
+told-here {q} {qs} e n r = e ∙ sym (r .same ∙ ap (λ (b : Bool). if_then_else b (toldBy qs) (record { number = q .number; slot = q .slot })) n)
 
-pub told-all : {whole : List Question} {v : Verdict} → v ≡ record { number = 0; slot = 0 } → Rest [] whole → Told whole v
-told-all e r = told-yes e (r .all tt)
+pub told-all : {whole : List Question} {v : Verdict} → v ≡ record { number = 0; slot = 0 } → Rest [] whole → v ≡ toldBy whole
+unfolding toldBy
+told-all e r = e ∙ sym (r .same)
+
+-- each question has a number of its own, and so 0 tells that each is answered yes
+abbrev pub allNumbered : List Question → Bool
+allNumbered qs = all (λ (q : Question). ltb 0 (q .number)) qs
+
+pub told-by : (qs : List Question) {v : Verdict} → allNumbered qs ≡ true → v ≡ toldBy qs → Told qs v
+unfolding toldBy if_then_else
+told-by [] n e = told-yes e tt
+told-by (q ∷ qs) {v} n e = go (λ d. told-by qs (right (ltb 0 (q .number)) (allNumbered qs) n) d) (q .yes) refl e
+  where
+    go : (v ≡ toldBy qs → Told qs v) → (b : Bool) → q .yes ≡ b → v ≡ if_then_else b (toldBy qs) (record { number = q .number; slot = q .slot }) → Told (q ∷ qs) v
+    go rest true y d = told-after (q ∷ []) qs (y, tt) (rest d)
+    go rest false y d = told-no (q .number) (q .slot) d (λ z. omega (arith, ltb-true 0 (q .number) (left (ltb 0 (q .number)) (allNumbered qs) n), z)) (here q qs y)
 
 -- two lists of the same questions, as long as they are answered yes: what the one is told, the other is
 abbrev pub SameAsks : List Question → List Question → Type 0
@@ -124,11 +140,16 @@ same-no qs (p ∷ ps) s (later q rest e f) = let y = sym (s .0) ∙ e in later p
 pub same-told : (qs ps : List Question) {v : Verdict} → SameAsks qs ps → Told qs v → Told ps v
 same-told qs ps s t = record { all = λ y. same-all qs ps s (t .all y); first = λ z. same-no qs ps s (t .first z) }
 
+pub reach-numbered : (n i : ℕ) (l : List ℕ) → allNumbered (reachAsks n i l) ≡ true
+unfolding reachAsks
+reach-numbered zero i l = refl
+reach-numbered (suc n) i l = reach-numbered n (i + 1) l
+
 -- of a link whose marks are those of the slots before it, and whose read is numbered for its kind and its fields
-pub link-told : (s before : List ℕ) {marks : List Bool} {holder k number : ℕ} {v : Verdict} (kind good : Bool) → slotCount s ≤ mostSlots → marks ≡ marksOf before → (k ≡ 0 → ⊥)
-    → number ≡ numberOf kind good → Told (linkAsked s marks holder k number) v → Told (linkAsks s holder before k kind good) v
+pub link-told : (s before : List ℕ) (marks : List Bool) (holder k number : ℕ) {v : Verdict} (kind good : Bool) → slotCount s ≤ mostSlots → marks ≡ marksOf before → (k ≡ 0 → ⊥)
+    → number ≡ numberOf kind good → v ≡ toldBy (linkAsked s marks holder k number) → Told (linkAsks s holder before k kind good) v
 unfolding linkAsks
-link-told s before {marks} {holder} {k} {number} kind good l m z e t =
+link-told s before marks holder k number kind good l m z e t =
     let b = below-most k (slotCount s) l in
     same-told (linkAsked s marks holder k number) (linkAsks s holder before k kind good) (
       b,
@@ -140,19 +161,19 @@ link-told s before {marks} {holder} {k} {number} kind good l m z e t =
         refl,
         λ _. (kind-told kind good e, refl, refl, λ r. (good-told kind good e r, refl, refl, λ _. tt)),
       ),
-    ) t
+    ) (told-by (linkAsked s marks holder k number) refl t)
 
-pub link-below : (s : List ℕ) (marks : List Bool) (holder k number : ℕ) {v : Verdict} → Told (linkAsked s marks holder k number) v → v .number ≡ 0 → k < mostSlots
-link-below s marks holder k number t y = ltb-true k mostSlots (right (ltb k (slotCount s)) (ltb k mostSlots) (t .all y .0))
+pub link-below : (s : List ℕ) (marks : List Bool) (holder k number : ℕ) {v : Verdict} → v ≡ toldBy (linkAsked s marks holder k number) → v .number ≡ 0 → k < mostSlots
+link-below s marks holder k number t y = ltb-true k mostSlots (right (ltb k (slotCount s)) (ltb k mostSlots) (told-by (linkAsked s marks holder k number) refl t .all y .0))
 
 -- of a link to the coefficient slot at place n of a group
-pub row-told : (s : List ℕ) (g n : ℕ) {holder k : ℕ} {row : CoefficientsRead} {v : Verdict} → holder ≡ coefficientHolder s g n → k ≡ coefficientSlot s g n
-    → row ≡ coefficientsRead (slotOf s k) → Told (rowAsked s holder k n row) v → Told (coefficientAsks s g n) v
+pub row-told : (s : List ℕ) (g n holder k : ℕ) (row : CoefficientsRead) {v : Verdict} → holder ≡ coefficientHolder s g n → k ≡ coefficientSlot s g n
+    → row ≡ coefficientsRead (slotOf s k) → v ≡ toldBy (rowAsked s holder k n (row .number) (row .pollutant)) → Told (coefficientAsks s g n) v
 unfolding coefficientAsks coefficientsRead
-row-told s g n h k w t =
+row-told s g n holder k row h d w t =
     let e = ap (λ (r : CoefficientsRead). r .number) w in
     let p = ap (λ (r : CoefficientsRead). eqb (r .pollutant) (n + 1)) w in
-    rw (← h, ← k) (same-told _ _ (
+    rw (← h, ← d) (same-told (rowAsked s holder k n (row .number) (row .pollutant)) _ (
       refl,
       refl,
       refl,
@@ -167,4 +188,4 @@ row-told s g n h k w t =
           λ y. (good-told _ _ e y, refl, refl, λ _. (p, refl, refl, λ _. tt)),
         ),
       ),
-    ) t)
+    ) (told-by (rowAsked s holder k n (row .number) (row .pollutant)) refl t))

@@ -1,4 +1,4 @@
--- What a list of questions is answered by a number and a slot: 0 where each is answered yes, and else those of the first that is answered no.
+-- What a list of questions is told: 0 and 0 where each is answered yes, and else the number and the slot of the first that is answered no.
 use Prim.Native.Nat.{ℕ, _+_}
 use mathlib.Core.Path.{_≡_}
 use mathlib.Core.Bool.{Bool, false, _&&_, not}
@@ -6,11 +6,16 @@ use mathlib.Core.List.{List, [], _∷_}
 use lib.Dec.{ltb, eqb}
 use lib.ListN.{getD}
 use Rattle.sums.specs.Choice.{if_then_else}
+use Rattle.sums.specs.Answer.{noRefusal}
 use Rattle.sums.specs.declared.answer.Verdict.{Verdict}
-use Rattle.slots.specs.declared.coefficients.CoefficientsRead.{CoefficientsRead}
 use Rattle.slot_file.specs.Questions.{mostSlots, Question, question, slotCount}
 use Rattle.slot_file.specs.Meaning.{AllYes, FirstNo}
 
+unfoldable pub toldBy : List Question → Verdict
+toldBy [] = noRefusal
+toldBy (q ∷ qs) = if_then_else (q .yes) (toldBy qs) (record { number = q .number; slot = q .slot })
+
+-- the same in the words of `Meaning`
 pub record Told (qs : List Question) (v : Verdict) : Type 0 where
   pub all : v .number ≡ 0 → AllYes qs
   pub first : (v .number ≡ 0 → ⊥) → FirstNo qs (v .number) (v .slot)
@@ -25,8 +30,8 @@ linkAsked s marks holder k number =
     question (ltb k (slotCount s) && ltb k mostSlots) 6 holder ∷ question (not (getD marks k false)) 7 k ∷ question (not (eqb number 8)) 8 k
     ∷ question (not (eqb number 9)) 9 k ∷ []
 
--- questions 10, 6, 8, 9 and 10 of a link k to the coefficient slot at place n, by the row read there
-abbrev pub rowAsked : List ℕ → ℕ → ℕ → ℕ → CoefficientsRead → List Question
-rowAsked s holder k n row =
-    question (not (eqb k 0)) 10 holder ∷ question (ltb k (slotCount s)) 6 holder ∷ question (not (eqb (row .number) 8)) 8 k
-    ∷ question (not (eqb (row .number) 9)) 9 k ∷ question (eqb (row .pollutant) (n + 1)) 10 k ∷ []
+-- questions 10, 6, 8, 9 and 10 of a link k to the coefficient slot at place n, by the number and the pollutant of the row read there
+abbrev pub rowAsked : List ℕ → ℕ → ℕ → ℕ → ℕ → ℕ → List Question
+rowAsked s holder k n number pollutant =
+    question (not (eqb k 0)) 10 holder ∷ question (ltb k (slotCount s)) 6 holder ∷ question (not (eqb number 8)) 8 k
+    ∷ question (not (eqb number 9)) 9 k ∷ question (eqb pollutant (n + 1)) 10 k ∷ []

@@ -1,18 +1,11 @@
 // The questions in order, of what the walk has read: of a list of them, the number and the slot of the first that is answered no, or 0 and 0.
 ghost use mathlib.Core.Path.{_≡_};
-ghost use Rattle.vehicle_fields.specs.SootAndLead.{zeroWhereDue};
-ghost use Rattle.locomotives.specs.Fields.{sharesAddUp};
 ghost use Rattle.slot_file.specs.Questions.{question, headAsksOf};
-ghost use Rattle.questions.specs.Told.{asked, Told, linkAsked, rowAsked};
-use locomotives::Locomotive;
+ghost use Rattle.questions.specs.Told.{toldBy, asked, linkAsked, rowAsked};
 use slot_file::MOST_SLOTS;
-use slots::CoefficientsRead;
 use slots::Header;
 use slots::SLOT_SIZE;
 use sums::Verdict;
-use vehicle_fields::Coefficients;
-use vehicle_fields::Group;
-use vehicle_fields::POLLUTANTS;
 
 fn accept() -> Verdict
     ensures { λ r. ⌜ r ≡ record { number = 0; slot = 0 } ⌝ }
@@ -31,7 +24,7 @@ const MOST_BYTES: usize = SLOT_SIZE * MOST_SLOTS;
 
 // Questions 1 to 5, of the file and its slot 0.
 pub fn ask_head(file: &[u8], h: Header) -> Verdict
-    ensures { λ r. ⌜ Told (headAsksOf (now (file .entry)) h) r ⌝ }
+    ensures { λ r. ⌜ r ≡ toldBy (headAsksOf (now (file .entry)) h) ⌝ }
 {
     let n = file.len();
     let whole = (SLOT_SIZE <= n) & (n <= MOST_BYTES) & (n % SLOT_SIZE == 0);
@@ -62,7 +55,7 @@ pub fn ask_link(
     link: u16,
     number: u8,
 ) -> Verdict
-    ensures { λ r. ⌜ Told (linkAsked (now (file .entry)) (now (sources .entry)) holder link number) r ⌝ }
+    ensures { λ r. ⌜ r ≡ toldBy (linkAsked (now (file .entry)) (now (sources .entry)) holder link number) ⌝ }
 {
     let k = link as usize;
     let below = (k < file.len() / SLOT_SIZE) & (k < MOST_SLOTS);
@@ -81,9 +74,9 @@ pub fn ask_link(
     accept()
 }
 
-// Questions 10, 6, 8, 9 and 10, of a link to a group's coefficient slot at a place from 0.
-pub fn ask_row(file: &[u8], holder: u16, link: u16, place: u8, row: CoefficientsRead) -> Verdict
-    ensures { λ r. ⌜ Told (rowAsked (now (file .entry)) holder link place row) r ⌝ }
+// Questions 10, 6, 8, 9 and 10, of a link to a group's coefficient slot at a place from 0: `number` is what its read answers of 8 and 9.
+pub fn ask_row(file: &[u8], holder: u16, link: u16, place: u8, number: u8, pollutant: u8) -> Verdict
+    ensures { λ r. ⌜ r ≡ toldBy (rowAsked (now (file .entry)) holder link place number pollutant) ⌝ }
 {
     if link == 0 {
         return refuse(10, holder);
@@ -91,45 +84,27 @@ pub fn ask_row(file: &[u8], holder: u16, link: u16, place: u8, row: Coefficients
     if file.len() / SLOT_SIZE <= link as usize {
         return refuse(6, holder);
     }
-    if row.number == 8 {
+    if number == 8 {
         return refuse(8, link);
     }
-    if row.number == 9 {
+    if number == 9 {
         return refuse(9, link);
     }
-    if row.pollutant as u16 != place as u16 + 1 {
+    if pollutant as u16 != place as u16 + 1 {
         return refuse(10, link);
     }
     accept()
 }
 
-// Question 11, of a group that was told `before` by the questions before it.
-pub fn ask_soot_and_lead(
-    before: Verdict,
-    group: Group,
-    coefficients: [Coefficients; POLLUTANTS],
-    link: u16,
-) -> Verdict
-    ensures { λ r. ⌜ r ≡ asked before (question (zeroWhereDue group coefficients) 11 link) ⌝ }
+// One question more, where nothing was refused `before` it: 11 of a group, 14 of a locomotive.
+pub fn ask(before: Verdict, yes: bool, number: u8, slot: u16) -> Verdict
+    ensures { λ r. ⌜ r ≡ asked before (question yes number slot) ⌝ }
 {
     if before.number != 0 {
         return before;
     }
-    if !vehicle_fields::zero_where_due(group, coefficients) {
-        return refuse(11, link);
-    }
-    before
-}
-
-// Question 14, of a locomotive that was told `before` by the questions before it.
-pub fn ask_shares(before: Verdict, locomotive: Locomotive, link: u16) -> Verdict
-    ensures { λ r. ⌜ r ≡ asked before (question (sharesAddUp locomotive) 14 link) ⌝ }
-{
-    if before.number != 0 {
-        return before;
-    }
-    if !locomotives::shares_add_up(locomotive) {
-        return refuse(14, link);
+    if !yes {
+        return refuse(number, slot);
     }
     before
 }

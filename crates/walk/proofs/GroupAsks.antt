@@ -16,7 +16,7 @@ use Rattle.slot_file.specs.Sources.{groupAt, Chains}
 use Rattle.slot_file.specs.Questions.{mostSlots, Question, question, slotCount, lastOf, sourcesOf, rowsAsks, closingAsks, groupLinkAsks, groupAsks, afterSixth}
 use Rattle.slot_file.specs.Meaning.{AllYes}
 use Rattle.slot_file.specs.Parts.{marksOf}
-use Rattle.questions.specs.Told.{asked, Told, linkAsked}
+use Rattle.questions.specs.Told.{toldBy, asked, Told, linkAsked}
 use Rattle.questions.proofs.Telling.{told-before, told-after, told-ask, link-told}
 
 module _ (s : List ℕ) (c : Chains) (g : ℕ) where
@@ -33,19 +33,19 @@ module _ (s : List ℕ) (c : Chains) (g : ℕ) where
       ∙ sym (append-assoc (groupLinkAsks s c g) (rowsAsks s g pollutantCount) (afterSixth s g ∷ eleven))
 
   module _ {v : Verdict} where
-    pub group-link-told : {sources : List Bool} (holder : ℕ) (read : GroupRead) → Told (linkAsked s sources holder g (read .number)) v → slotCount s ≤ mostSlots → read ≡ groupRead (slotOf s g)
+    pub group-link-told : (sources : List Bool) (holder : ℕ) (read : GroupRead) → v ≡ toldBy (linkAsked s sources holder g (read .number)) → slotCount s ≤ mostSlots → read ≡ groupRead (slotOf s g)
         → (g ≡ 0 → ⊥) → sources ≡ marksOf (sourcesOf c) → holder ≡ lastOf (c .groups) → Told (groupLinkAsks s c g) v
     unfolding groupRead
-    group-link-told holder read t l e z m h =
+    group-link-told sources holder read t l e z m h =
         let x = slotOf s g in
-        rw (← h) (link-told s (sourcesOf c) (groupKind x) (groupGood x (groupOf x)) l m z (ap (λ (r : GroupRead). r .number) e) t)
+        rw (← h) (link-told s (sourcesOf c) sources holder g (read .number) (groupKind x) (groupGood x (groupOf x)) l m z (ap (λ (r : GroupRead). r .number) e) t)
 
     pub link-refused : Told (groupLinkAsks s c g) v → (v .number ≡ 0 → ⊥) → Told (groupAsks s c g) v
     link-refused t z = subst (λ (l : List Question). Told l v) asks-are (told-before (groupLinkAsks s c g) (rows ++ eleven) t z)
 
   -- what was told of the coefficient links, and then of question 11
-  pub eleven-told : (before : Verdict) {v : Verdict} (h : Group) (ks : List Coefficients) → v ≡ asked before (question (zeroWhereDue h ks) 11 g) → AllYes (groupLinkAsks s c g) → Told rows before
+  pub eleven-told : (before : Verdict) {v : Verdict} (due : Bool) (h : Group) (ks : List Coefficients) → due ≡ zeroWhereDue h ks → v ≡ asked before (question due 11 g) → AllYes (groupLinkAsks s c g) → Told rows before
       → h ≡ groupAt s g .group → (before .number ≡ 0 → ks ≡ groupAt s g .coefficients) → Told (groupAsks s c g) v
-  eleven-told before {v} h ks t a r e f =
+  eleven-told before {v} due h ks d t a r e f =
       subst (λ (l : List Question). Told l v) asks-are (told-after (groupLinkAsks s c g) (rows ++ eleven) a
-      (told-ask before _ _ 11 g (lit< tt) r (λ y i. zeroWhereDue (e i) (f y i)) t))
+      (told-ask before _ _ 11 g (lit< tt) r (λ y. d ∙ (λ i. zeroWhereDue (e i) (f y i))) t))

@@ -1,6 +1,6 @@
 -- All that is asked of a link to a locomotive: of the link, by what its slot reads as, and question 14. Assumes nothing.
 use Prim.Native.Nat.{ℕ, _≤_}
-use mathlib.Core.Path.{_≡_, ap}
+use mathlib.Core.Path.{_≡_, ap, _∙_}
 use mathlib.Core.Bool.{Bool}
 use mathlib.Core.List.{List}
 use lib.Dec.{lit<}
@@ -12,14 +12,15 @@ use Rattle.slots.specs.declared.locomotive.LocomotiveRead.{LocomotiveRead}
 use Rattle.slot_file.specs.Sources.{locomotiveAt, Chains}
 use Rattle.slot_file.specs.Questions.{mostSlots, question, slotCount, lastOf, sourcesOf, locomotiveAsks}
 use Rattle.slot_file.specs.Parts.{marksOf}
-use Rattle.questions.specs.Told.{asked, Told, linkAsked}
+use Rattle.questions.specs.Told.{toldBy, asked, Told, linkAsked}
 use Rattle.questions.proofs.Telling.{told-ask, link-told}
 
-pub locomotive-told : (s : List ℕ) (c : Chains) {k holder : ℕ} {sources : List Bool} {linked v : Verdict} {read : LocomotiveRead} → Told (linkAsked s sources holder k (read .number)) linked
-    → slotCount s ≤ mostSlots → read ≡ locomotiveRead (slotOf s k) → (k ≡ 0 → ⊥) → v ≡ asked linked (question (sharesAddUp (read .locomotive)) 14 k)
+pub locomotive-told : (s : List ℕ) (c : Chains) (sources : List Bool) (holder k : ℕ) (read : LocomotiveRead) (linked : Verdict) {v : Verdict} (up : Bool)
+    → linked ≡ toldBy (linkAsked s sources holder k (read .number)) → slotCount s ≤ mostSlots → read ≡ locomotiveRead (slotOf s k) → (k ≡ 0 → ⊥) → up ≡ sharesAddUp (read .locomotive)
+    → v ≡ asked linked (question up 14 k)
     → sources ≡ marksOf (sourcesOf c) → holder ≡ lastOf (c .locomotives) → Told (locomotiveAsks s c k) v
 unfolding locomotiveAsks locomotiveAt locomotiveRead
-locomotive-told s c {k} {linked = linked} t l e z d m h =
+locomotive-told s c sources holder k read linked up t l e z u d m h =
     let x = slotOf s k in
-    rw (← h) (told-ask linked _ _ 14 k (lit< tt) (link-told s (sourcesOf c) (locomotiveKind x) (locomotiveGood x (locomotiveOf x)) l m z (ap (λ (r : LocomotiveRead). r .number) e) t)
-    (λ y. ap (λ (r : LocomotiveRead). sharesAddUp (r .locomotive)) e) d)
+    rw (← h) (told-ask linked _ _ 14 k (lit< tt) (link-told s (sourcesOf c) sources holder k (read .number) (locomotiveKind x) (locomotiveGood x (locomotiveOf x)) l m z (ap (λ (r : LocomotiveRead). r .number) e) t)
+    (λ y. u ∙ ap (λ (r : LocomotiveRead). sharesAddUp (r .locomotive)) e) d)

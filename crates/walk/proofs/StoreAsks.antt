@@ -9,10 +9,10 @@ use Rattle.slots.specs.Layout.{storeKind, storeGood}
 use Rattle.slot_file.specs.Sources.{Chains}
 use Rattle.slot_file.specs.Questions.{mostSlots, slotCount, lastOf, sourcesOf, storeAsks}
 use Rattle.slot_file.specs.Parts.{marksOf}
-use Rattle.questions.specs.Told.{Told, linkAsked}
+use Rattle.questions.specs.Told.{toldBy, Told, linkAsked}
 use Rattle.questions.proofs.Telling.{link-told}
 
-pub store-told : (s : List ℕ) (c : Chains) {k holder number : ℕ} {sources : List Bool} {v : Verdict} → Told (linkAsked s sources holder k number) v → slotCount s ≤ mostSlots
+pub store-told : (s : List ℕ) (c : Chains) (sources : List Bool) (holder k number : ℕ) {v : Verdict} → v ≡ toldBy (linkAsked s sources holder k number) → slotCount s ≤ mostSlots
     → number ≡ numberOf (storeKind (slotOf s k)) (storeGood (slotOf s k)) → (k ≡ 0 → ⊥) → sources ≡ marksOf (sourcesOf c) → holder ≡ lastOf (c .stores) → Told (storeAsks s c k) v
 unfolding storeAsks
-store-told s c t l e z m h = rw (← h) (link-told s (sourcesOf c) _ _ l m z e t)
+store-told s c sources holder k number t l e z m h = rw (← h) (link-told s (sourcesOf c) sources holder k number _ _ l m z e t)

@@ -11,7 +11,7 @@ use Rattle.slots.specs.Layout.{nextOf, readStore}
 use Rattle.slot_file.specs.Sources.{groupAt, locomotiveAt, Chains}
 use Rattle.slot_file.specs.Questions.{lastOf, sourcesOf, groupAsks, storeAsks, locomotiveAsks, reachAsks}
 use Rattle.slot_file.specs.Parts.{marksOf}
-use Rattle.questions.specs.Told.{Told}
+use Rattle.questions.specs.Told.{toldBy, Told}
 use Rattle.walk.specs.Rows.{marksTo}
 use Rattle.walk.specs.declared.group_chain.GroupStep.{GroupStep}
 use Rattle.walk.specs.declared.store_chain.StoreStep.{StoreStep}
@@ -19,7 +19,7 @@ use Rattle.walk.specs.declared.locomotive_chain.LocomotiveStep.{Locomoti
 
 -- of every slot from 1 up, whatever slots the marks are of
 abbrev pub ReachTold : List Bool → ℕ → Verdict → Type 0
-ReachTold marks count v = (l : List ℕ) → marks ≡ marksOf l → Told (reachAsks (count - 1) 1 l) v
+ReachTold marks count v = (l : List ℕ) → marks ≡ marksOf l → v ≡ toldBy (reachAsks (count - 1) 1 l)
 
 -- a group that nothing is refused of, and the marks after it
 pub record GroupTaken (s : List ℕ) (g : ℕ) (sources sources′ reached reached′ : List Bool) (r : GroupStep) : Type 0 where

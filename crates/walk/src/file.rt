@@ -6,10 +6,8 @@ ghost use Rattle.slot_file.specs.Figures as figures;
 ghost use Rattle.slot_file.specs.Parts.{marksOf};
 ghost use Rattle.totals.specs.Totals.{noNumbers};
 ghost use Rattle.walk.specs.Walked.{FileWalked};
-use super::group_chain;
-use super::locomotive_chain;
+use super::chains;
 use super::reached;
-use super::store_chain;
 use super::walked;
 use super::walked::Walked;
 use slot_file::Answer;
@@ -40,33 +38,7 @@ fn walk_file(file: &[u8], totals: &mut [u64], summing: bool) -> Walked
     }
     let mut sources = no_marks();
     let mut reached = no_marks();
-    let groups = group_chain::walk_groups(file, &mut sources, &mut reached, totals, h, summing);
-    let verdict = groups.verdict;
-    if verdict.number != 0 {
-        return groups;
-    }
-    let stores = store_chain::walk_stores(
-        file,
-        &mut sources,
-        &mut reached,
-        totals,
-        h,
-        summing,
-        groups,
-    );
-    let verdict = stores.verdict;
-    if verdict.number != 0 {
-        return stores;
-    }
-    let all = locomotive_chain::walk_locomotives(
-        file,
-        &mut sources,
-        &mut reached,
-        totals,
-        h,
-        summing,
-        stores,
-    );
+    let all = chains::walk_chains(file, &mut sources, &mut reached, totals, h, summing);
     let verdict = all.verdict;
     if verdict.number != 0 {
         return all;

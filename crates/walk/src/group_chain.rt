@@ -52,8 +52,9 @@ fn step_group(
     let rows = rows::read_rows(file, reached, link, read.first);
     let verdict = rows.verdict;
     let coefficients = rows.coefficients;
+    let due = vehicle_fields::zero_where_due(group, coefficients);
     GroupStep {
-        verdict: questions::ask_soot_and_lead(verdict, group, coefficients, link),
+        verdict: questions::ask(verdict, due, 11, link),
         group,
         coefficients,
         next: read.next,

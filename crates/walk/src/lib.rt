@@ -1,4 +1,5 @@
 // The walk over a slot file: its check, and its answer.
+mod chains;
 pub mod file;
 mod group_chain;
 mod locomotive_chain;

@@ -34,7 +34,7 @@ fn step_locomotive(
     let read = slots::read_locomotive(file, k);
     let locomotive = read.locomotive;
     let linked = questions::ask_link(file, sources, holder, link, read.number);
-    let verdict = questions::ask_shares(linked, locomotive, link);
+    let verdict = questions::ask(linked, locomotives::shares_add_up(locomotive), 14, link);
     if verdict.number == 0 {
         sources[k] = true;
         reached[k] = true;

@@ -58,7 +58,7 @@ pub(crate) fn read_rows(file: &[u8], reached: &mut [bool; MOST_SLOTS], g: u16, f
     let mut n: u8 = 0;
     while n < ROWS {
         let row = row_at(file, link);
-        let verdict = questions::ask_row(file, holder, link, n, row);
+        let verdict = questions::ask_row(file, holder, link, n, row.number, row.pollutant);
         if verdict.number != 0 {
             return Rows {
                 verdict,

@@ -3,7 +3,6 @@ use borrow.Author.Tests.{eq-eqb, ne-eqb, not-true, not-false}
 use native.Mathlib.Omega.{arith}
 use mathlib.Core.Path.{sym, _∙_}
 use mathlib.Core.List.{List}
-use lib.Dec.{lit<}
 use lib.ListN.{drop}
 use Rattle.slot_file.specs.Questions.{Question, headAsksOf}
 use Rattle.questions.proofs.Telling.{Rest, rest-whole, rest-on, told-here, told-all}
@@ -41,28 +40,28 @@ after-4 : (c : tie.Else4) → Rest (drop 4 (asks (start-4 c))) (asks (start-4 c)
 after-4 c = rest-on (not-false _ (c .if4 .left)) (after-3 (c .before .before))
 
 returns : tie.Need-returns
-returns c = told-here (c .refuse .ensures) (lit< tt) (not-true _ (c .before .if1 .taken)) rest-whole
+returns c = told-here (c .refuse .ensures) (not-true _ (c .before .if1 .taken)) rest-whole
 
 returns-2 : tie.Need-returns-2
 returns-2 c =
     let b = c .before .before .before in
-    told-here (c .refuse2 .ensures) (lit< tt) (ne-eqb _ 1 (c .before .if2 .taken)) (after-1 b)
+    told-here (c .refuse2 .ensures) (ne-eqb _ 1 (c .before .if2 .taken)) (after-1 b)
 
 returns-3 : tie.Need-returns-3
 returns-3 c =
     let b = c .before .before .before in
-    told-here (c .refuse3 .ensures) (lit< tt) (ne-eqb _ _ (c .before .if3 .taken)) (after-2 b)
+    told-here (c .refuse3 .ensures) (ne-eqb _ _ (c .before .if3 .taken)) (after-2 b)
 
 returns-4 : tie.Need-returns-4
 returns-4 c =
     let b = c .before .before .before in
-    told-here (c .refuse4 .ensures) (lit< tt) (not-true _ (c .before .if4 .taken)) (after-3 b)
+    told-here (c .refuse4 .ensures) (not-true _ (c .before .if4 .taken)) (after-3 b)
 
 returns-5 : tie.Need-returns-5
 returns-5 c =
     let t = c .before .before in
     let b = t .before .before in
-    told-here (c .refuse5 .ensures) (lit< tt) (sym (t .temperatures-in-range .ensures) ∙ not-true _ (c .before .if5 .taken)) (after-4 b)
+    told-here (c .refuse5 .ensures) (sym (t .temperatures-in-range .ensures) ∙ not-true _ (c .before .if5 .taken)) (after-4 b)
 
 returns-6 : tie.Need-returns-6
 returns-6 c =

@@ -4,7 +4,7 @@ use native.Mathlib.Omega.{arith}
 use mathlib.Core.Path.{ap}
 use mathlib.Core.Bool.{not}
 use mathlib.Core.List.{List}
-use lib.Dec.{ltb, lit<}
+use lib.Dec.{ltb}
 use lib.ListN.{drop}
 use Rattle.sums.proofs.Choices.{right}
 use Rattle.slot_file.specs.Questions.{mostSlots, Question, slotCount}
@@ -38,7 +38,7 @@ after-3 : (c : tie.Else3) → Rest (drop 3 (asks (start-3 c))) (asks (start-3 c)
 after-3 c = rest-on (ap not (ne-eqb _ 8 (c .if3 .left))) (after-2 (c .before))
 
 returns : tie.Need-returns
-returns c = told-here (c .refuse .ensures) (lit< tt) (not-true _ (c .before .if1 .taken)) rest-whole
+returns c = told-here (c .refuse .ensures) (not-true _ (c .before .if1 .taken)) rest-whole
 
 element-copy-out : tie.Need-element-copy-out-if2
 element-copy-out c =
@@ -48,17 +48,17 @@ element-copy-out c =
 returns-2 : tie.Need-returns-2
 returns-2 c =
     let b = c .before .before .before in
-    told-here (c .refuse2 .ensures) (lit< tt) (ap not (c .before .if2 .taken)) (after-1 b)
+    told-here (c .refuse2 .ensures) (ap not (c .before .if2 .taken)) (after-1 b)
 
 returns-3 : tie.Need-returns-3
 returns-3 c =
     let b = c .before .before in
-    told-here (c .refuse3 .ensures) (lit< tt) (ap not (eq-eqb _ 8 (c .before .if3 .taken))) (after-2 b)
+    told-here (c .refuse3 .ensures) (ap not (eq-eqb _ 8 (c .before .if3 .taken))) (after-2 b)
 
 returns-4 : tie.Need-returns-4
 returns-4 c =
     let b = c .before .before in
-    told-here (c .refuse4 .ensures) (lit< tt) (ap not (eq-eqb _ 9 (c .before .if4 .taken))) (after-3 b)
+    told-here (c .refuse4 .ensures) (ap not (eq-eqb _ 9 (c .before .if4 .taken))) (after-3 b)
 
 returns-5 : tie.Need-returns-5
 returns-5 c =

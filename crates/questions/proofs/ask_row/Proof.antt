@@ -4,7 +4,6 @@ use native.Mathlib.Omega.{arith}
 use mathlib.Core.Path.{ap}
 use mathlib.Core.Bool.{not}
 use mathlib.Core.List.{List}
-use lib.Dec.{lit<}
 use lib.ListN.{drop}
 use Rattle.slot_file.specs.Questions.{Question}
 use Rattle.questions.specs.Told.{rowAsked}
@@ -14,7 +13,7 @@ use Rattle.questions.proofs.ask_row.Tie as tie
 
 -- the questions by the row at hand, and so by the group's coefficient slot
 abbrev asks : tie.Start → List Question
-asks a = rowAsked (a .args .file .now) (a .args .holder) (a .args .link) (a .args .place) (a .args .row)
+asks a = rowAsked (a .args .file .now) (a .args .holder) (a .args .link) (a .args .place) (a .args .number) (a .args .pollutant)
 
 -- from behind each question to the start
 abbrev start-1 : tie.Else1 → tie.Start
@@ -24,10 +23,10 @@ abbrev start-2 : tie.Else2 → tie.Start
 start-2 c = start-1 (c .before)
 
 abbrev start-3 : tie.Else3 → tie.Start
-start-3 c = start-2 (c .before .before)
+start-3 c = start-2 (c .before)
 
 abbrev start-4 : tie.Else4 → tie.Start
-start-4 c = start-3 (c .before .before)
+start-4 c = start-3 (c .before)
 
 -- and what is left there
 after-1 : (c : tie.Else1) → Rest (drop 1 (asks (start-1 c))) (asks (start-1 c))
@@ -37,41 +36,41 @@ after-2 : (c : tie.Else2) → Rest (drop 2 (asks (start-2 c))) (asks (start-2 c)
 after-2 c = rest-on (lt-ltb _ _ (c .if2 .left)) (after-1 (c .before))
 
 after-3 : (c : tie.Else3) → Rest (drop 3 (asks (start-3 c))) (asks (start-3 c))
-after-3 c = rest-on (ap not (ne-eqb _ 8 (c .if3 .left))) (after-2 (c .before .before))
+after-3 c = rest-on (ap not (ne-eqb _ 8 (c .if3 .left))) (after-2 (c .before))
 
 after-4 : (c : tie.Else4) → Rest (drop 4 (asks (start-4 c))) (asks (start-4 c))
-after-4 c = rest-on (ap not (ne-eqb _ 9 (c .if4 .left))) (after-3 (c .before .before))
+after-4 c = rest-on (ap not (ne-eqb _ 9 (c .if4 .left))) (after-3 (c .before))
 
 returns : tie.Need-returns
-returns c = told-here (c .refuse .ensures) (lit< tt) (ap not (eq-eqb _ 0 (c .before .if1 .taken))) rest-whole
+returns c = told-here (c .refuse .ensures) (ap not (eq-eqb _ 0 (c .before .if1 .taken))) rest-whole
 
 returns-2 : tie.Need-returns-2
 returns-2 c =
     let b = c .before .before in
-    told-here (c .refuse2 .ensures) (lit< tt) (le-ltb _ _ (c .before .if2 .taken)) (after-1 b)
+    told-here (c .refuse2 .ensures) (le-ltb _ _ (c .before .if2 .taken)) (after-1 b)
 
 returns-3 : tie.Need-returns-3
 returns-3 c =
-    let b = c .before .before .before in
-    told-here (c .refuse3 .ensures) (lit< tt) (ap not (eq-eqb _ 8 (c .before .if3 .taken))) (after-2 b)
+    let b = c .before .before in
+    told-here (c .refuse3 .ensures) (ap not (eq-eqb _ 8 (c .before .if3 .taken))) (after-2 b)
 
 returns-4 : tie.Need-returns-4
 returns-4 c =
-    let b = c .before .before .before in
-    told-here (c .refuse4 .ensures) (lit< tt) (ap not (eq-eqb _ 9 (c .before .if4 .taken))) (after-3 b)
+    let b = c .before .before in
+    told-here (c .refuse4 .ensures) (ap not (eq-eqb _ 9 (c .before .if4 .taken))) (after-3 b)
 
 returns-5 : tie.Need-returns-5
 returns-5 c =
-    let b = c .before .before .before in
-    told-here (c .refuse5 .ensures) (lit< tt) (ne-eqb _ _ (c .before .if5 .taken)) (after-4 b)
+    let b = c .before .before in
+    told-here (c .refuse5 .ensures) (ne-eqb _ _ (c .before .if5 .taken)) (after-4 b)
 
 returns-6 : tie.Need-returns-6
 returns-6 c =
-    let b = c .before .before .before in
+    let b = c .before .before in
     told-all (c .accept .ensures) (rest-on (eq-eqb _ _ (c .before .if5 .left)) (after-4 b))
 
 pub ask-row-spec : {M : Type 1} → statement M
 ask-row-spec =
     tie.close
-    (tie.spec (omega arith) returns (omega arith) returns-2 (omega arith) returns-3 (omega arith) returns-4 (omega arith) (omega arith) (omega arith)
+    (tie.spec (omega arith) returns (omega arith) returns-2 (omega arith) returns-3 (omega arith) returns-4 (omega arith) (omega arith)
     returns-5 (omega arith) returns-6)

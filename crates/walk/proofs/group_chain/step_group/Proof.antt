@@ -17,7 +17,7 @@ returns c =
     let g = a .args .link in
     let e = l .before .before .before .read-group .ensures in
     record {
-      told = λ b m h. link-refused s b g (group-link-told s b g (a .args .holder) _ (l .ask-link .ensures) (omega arith) e (a .pre .1) m h) (c .before .if1 .taken);
+      told = λ b m h. link-refused s b g (group-link-told s b g (a .args .sources .now) (a .args .holder) (l .before .before .before .read-group .result) (l .ask-link .ensures) (omega arith) e (a .pre .1) m h) (c .before .if1 .taken);
       passed = λ y. absurd (c .before .if1 .taken y);
     }
 
@@ -36,17 +36,18 @@ read-rows-requires c κs =
 returns-2 : tie.Need-returns-2
 unfolding groupAt groupRead
 returns-2 c =
-    let r = c .before .before .before in
+    let d = c .before in
+    let r = d .before .before .before in
     let l = r .before .before .before .before in
     let a = l .before .before .before .before .before in
     let s = a .args .file .now in
     let g = a .args .link in
     let e = l .before .before .before .read-group .ensures in
-    let t = c .ask-soot-and-lead .ensures in
+    let t = c .ask .ensures in
     let f = ap (λ (r : GroupRead). r .group) e in
     record {
       told = λ b m h.
-          eleven-told s b g _ _ _ t (group-link-told s b g (a .args .holder) _ (l .ask-link .ensures) (omega arith) e (a .pre .1) m h .all (r .before .before .if1 .left))
+          eleven-told s b g _ (d .zero-where-due .result) _ _ (d .zero-where-due .ensures) t (group-link-told s b g (a .args .sources .now) (a .args .holder) (l .before .before .before .read-group .result) (l .ask-link .ensures) (omega arith) e (a .pre .1) m h .all (r .before .before .if1 .left))
           (r .read-rows .ensures .told) f (r .read-rows .ensures .coefficients);
       passed = λ y.
           let z = asked-zero _ _ t y in
@@ -62,4 +63,4 @@ returns-2 c =
 pub step-group-spec : {M : Type 1} → statement M
 step-group-spec =
     tie.close
-    (tie.spec (omega arith) (omega arith) (omega arith) returns below below read-rows-requires (omega arith) returns-2)
+    (tie.spec (omega arith) (omega arith) (omega arith) returns below below read-rows-requires (omega arith) (omega arith) returns-2)

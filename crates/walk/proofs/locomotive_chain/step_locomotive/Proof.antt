@@ -12,9 +12,9 @@ use Rattle.walk.proofs.LocomotiveAsks.{locomotive-told}
 use Rattle.walk.proofs.locomotive_chain.step_locomotive.Statement.{statement}
 use Rattle.walk.proofs.locomotive_chain.step_locomotive.Tie as tie
 
--- back from where the shares are asked to the link, to the slot, and to the start
-abbrev at-link : tie.After-ask-shares → tie.After-ask-link
-at-link c = c .before
+-- back from where question 14 is asked to the link, to the slot, and to the start
+abbrev at-link : tie.After-ask → tie.After-ask-link
+at-link c = c .before .before
 
 abbrev at-slot : tie.After-ask-link → tie.After-read-locomotive
 at-slot c = c .before .before .before
@@ -23,12 +23,13 @@ abbrev at-start : tie.After-read-locomotive → tie.Start
 at-start c = c .before .before
 
 -- what the link is told, and the locomotive, whatever the marks are after it
-told : (c : tie.After-ask-shares) (d : Chains) → at-start (at-slot (at-link c)) .args .sources .now ≡ marksOf (sourcesOf d)
-    → at-start (at-slot (at-link c)) .args .holder ≡ lastOf (d .locomotives) → Told (locomotiveAsks (at-start (at-slot (at-link c)) .args .file .now) d (at-start (at-slot (at-link c)) .args .link)) (c .ask-shares .result)
+told : (c : tie.After-ask) (d : Chains) → at-start (at-slot (at-link c)) .args .sources .now ≡ marksOf (sourcesOf d)
+    → at-start (at-slot (at-link c)) .args .holder ≡ lastOf (d .locomotives) → Told (locomotiveAsks (at-start (at-slot (at-link c)) .args .file .now) d (at-start (at-slot (at-link c)) .args .link)) (c .ask .result)
 told c d =
     let l = at-link c in
     let a = at-start (at-slot l) in
-    locomotive-told (a .args .file .now) d (l .ask-link .ensures) (omega arith) (at-slot l .read-locomotive .ensures) (a .pre .1) (c .ask-shares .ensures)
+    locomotive-told (a .args .file .now) d (a .args .sources .now) (a .args .holder) (a .args .link) (at-slot l .read-locomotive .result) (l .ask-link .result) (c .before .shares-add-up .result)
+    (l .ask-link .ensures) (omega arith) (at-slot l .read-locomotive .ensures) (a .pre .1) (c .before .shares-add-up .ensures) (c .ask .ensures)
 
 -- the slot is below the most where nothing is refused
 below : tie.Need-element-write-sources
@@ -36,7 +37,7 @@ below c =
     let e = c .before .before in
     let l = at-link e in
     let a = at-start (at-slot l) .args in
-    link-below (a .file .now) (a .sources .now) (a .holder) (a .link) (at-slot l .read-locomotive .result .number) (l .ask-link .ensures) (asked-zero _ _ (e .ask-shares .ensures) (c .if1 .taken))
+    link-below (a .file .now) (a .sources .now) (a .holder) (a .link) (at-slot l .read-locomotive .result .number) (l .ask-link .ensures) (asked-zero _ _ (e .ask .ensures) (c .if1 .taken))
 
 returns : tie.Need-returns
 unfolding locomotiveAt locomotiveRead
@@ -60,4 +61,4 @@ returns-2 c =
     }
 
 pub step-locomotive-spec : {M : Type 1} → statement M
-step-locomotive-spec = tie.close (tie.spec (omega arith) (omega arith) (omega arith) below below returns returns-2)
+step-locomotive-spec = tie.close (tie.spec (omega arith) (omega arith) (omega arith) (omega arith) below below returns returns-2)

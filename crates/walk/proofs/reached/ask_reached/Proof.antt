@@ -5,9 +5,8 @@ use Prim.Native.Nat.{ℕ, suc, _≤_, _+_, _-_}
 use mathlib.Core.Path.{_≡_, refl}
 use mathlib.Core.List.{List, _∷_}
 use Rattle.slot_file.specs.Questions.{question, member, reachAsks}
-use Rattle.slot_file.specs.Meaning.{here}
 use Rattle.slot_file.specs.Parts.{marksOf}
-use Rattle.questions.proofs.Telling.{told-no, told-yes, marked, Rest, rest-on}
+use Rattle.questions.proofs.Telling.{marked, Rest, rest-whole, rest-on, told-here, told-all}
 use Rattle.walk.proofs.reached.ask_reached.Statement.{statement}
 use Rattle.walk.proofs.reached.ask_reached.Tie as tie
 
@@ -23,7 +22,7 @@ abbrev μ-loop : tie.MeasureT-loop
 μ-loop reached count i₀ i = count - i
 
 loop-holds : tie.Need-loop-holds Inv-loop μ-loop
-loop-holds c = (omega arith, λ l m. record { all = λ a. a; first = λ n k f. f })
+loop-holds c = (omega arith, λ l m. rest-whole)
 
 returns : tie.Need-returns Inv-loop μ-loop
 returns c l m =
@@ -32,7 +31,7 @@ returns c l m =
     let n = b .before .args .count in
     let e = reach-turn (n - i) (n - (i + 1)) i l (omega arith) in
     let t = marked l i m (λ z. omega arith) (omega arith) (not-true _ (c .if1 .taken)) in
-    told-no 12 i refl (omega arith) (b .loop .inv .1 l m .first 12 i (rw e (here _ _ t)))
+    told-here refl t (rw e at (b .loop .inv .1 l m))
 
 loop-again : tie.Need-loop-again Inv-loop μ-loop
 loop-again c =
@@ -51,7 +50,7 @@ unfolding reachAsks
 returns-2 c l m =
     let b = c .before in
     let e : b .before .args .count - b .loop .i ≡ 0 = omega arith in
-    told-yes refl (b .loop .inv .1 l m .all (rw e tt))
+    told-all refl (rw e at (b .loop .inv .1 l m))
 
 pub ask-reached-spec : {M : Type 1} → statement M
 ask-reached-spec = tie.close (tie.spec Inv-loop μ-loop loop-holds (omega arith) (omega arith) returns (omega arith) (omega arith) loop-again returns-2)

@@ -41,7 +41,7 @@ returns c =
     let b = c .before .before .before .before .before in
     let a = b .before .before .before .args in
     let s = a .file .now in
-    let told = row-told s (a .g) (b .loop .n) (b .loop .inv .3) (b .loop .inv .4) (c .before .before .before .row-at .ensures) (c .before .before .ask-row .ensures) in
+    let told = row-told s (a .g) (b .loop .n) (b .loop .holder) (b .loop .link) (c .before .before .before .row-at .result) (b .loop .inv .3) (b .loop .inv .4) (c .before .before .before .row-at .ensures) (c .before .before .ask-row .ensures) in
     record {
       told = record {
         all = λ z. absurd (c .if1 .taken z);
@@ -61,7 +61,7 @@ element-write-reached c =
     let p = c .before .before in
     let b = at-loop p in
     let a = b .before .before .before .args in
-    let told = row-told (a .file .now) (a .g) (b .loop .n) (b .loop .inv .3) (b .loop .inv .4) (p .before .before .before .row-at .ensures) (p .before .before .ask-row .ensures) in
+    let told = row-told (a .file .now) (a .g) (b .loop .n) (b .loop .holder) (b .loop .link) (p .before .before .before .row-at .result) (b .loop .inv .3) (b .loop .inv .4) (p .before .before .before .row-at .ensures) (p .before .before .ask-row .ensures) in
     let l = ltb-true (coefficientSlot (a .file .now) (a .g) (b .loop .n)) (slotCount (a .file .now)) (told .all (p .if1 .left) .1 .0) in
     omega (arith, l, b .loop .inv .4)
 
@@ -73,7 +73,7 @@ loop-again c =
     let a = b .before .before .before .args in
     let s = a .file .now in
     let row = p .before .before .before .row-at .ensures in
-    let told = row-told s (a .g) (b .loop .n) (b .loop .inv .3) (b .loop .inv .4) row (p .before .before .ask-row .ensures) in
+    let told = row-told s (a .g) (b .loop .n) (b .loop .holder) (b .loop .link) (p .before .before .before .row-at .result) (b .loop .inv .3) (b .loop .inv .4) row (p .before .before .ask-row .ensures) in
     let e = b .loop .inv .4 in (
       omega arith,
       search needs,

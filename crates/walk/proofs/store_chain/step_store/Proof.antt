@@ -17,7 +17,7 @@ returns c =
     let s = a .args .file .now in
     let r = l .before .before .before .read-store .ensures in
     let told : (d : Chains) → a .args .sources .now ≡ marksOf (sourcesOf d) → a .args .holder ≡ lastOf (d .stores) → Told (storeAsks s d (a .args .link)) _ =
-    λ d. store-told s d (l .ask-link .ensures) (omega arith) (l .before .number-of .ensures ∙ r .number) (a .pre .1) in
+    λ d. store-told s d (a .args .sources .now) (a .args .holder) (a .args .link) (l .before .number-of .result) (l .ask-link .ensures) (omega arith) (l .before .number-of .ensures ∙ r .number) (a .pre .1) in
     record { read = r .read; told = told; passed = λ y. absurd (c .if1 .taken y) }
 
 -- the slot is below the most where nothing is refused
@@ -34,7 +34,7 @@ returns-2 c =
     let s = a .args .file .now in
     let r = l .before .before .before .read-store .ensures in
     let told : (d : Chains) → a .args .sources .now ≡ marksOf (sourcesOf d) → a .args .holder ≡ lastOf (d .stores) → Told (storeAsks s d (a .args .link)) _ =
-    λ d. store-told s d (l .ask-link .ensures) (omega arith) (l .before .number-of .ensures ∙ r .number) (a .pre .1) in
+    λ d. store-told s d (a .args .sources .now) (a .args .holder) (a .args .link) (l .before .number-of .result) (l .ask-link .ensures) (omega arith) (l .before .number-of .ensures ∙ r .number) (a .pre .1) in
     record { read = r .read; told = told; passed = λ _. record { next = c .next-of .ensures; source-marked = refl; slot-marked = refl } }
 
 pub step-store-spec : {M : Type 1} → statement M
