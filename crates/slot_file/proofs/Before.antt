@@ -3,11 +3,7 @@
 use Prim.Native.Nat.{ℕ}
 use native.Mathlib.Omega.{arith}
 use mathlib.Core.Path.{_≡_, refl, sym, ap, _∙_}
-use mathlib.Core.Bool.{Bool, true, _&&_}
 use mathlib.Core.List.{List, [], append-nil}
-use lib.Dec.{eqb}
-use borrow.Author.Tests.{eq-eqb}
-use Rattle.sums.specs.Choice.{if_then_else}
 use Rattle.slots.specs.Bytes.{byteAt, u16At, zeroFrom, slotOf}
 use Rattle.slots.specs.Layout.{headerOf}
 use Rattle.slot_file.specs.Sources.{headerAt, Chains, inventoryAt}

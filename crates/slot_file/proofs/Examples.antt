@@ -1,9 +1,8 @@
 -- 01's starred rows of store records, locomotives by hand, a file for each refusal that needs no whole yard, B's answer in a lent buffer, and two alike files of store
--- records and of locomotives: computed, from the definitions as a whole; and question 7 in other words. The whole table is computed in the crate `surveyed`. Assumes nothing.
+-- records and of locomotives: computed, from the definitions as a whole; and questions 7 and 14 in other words. The whole table is computed in the crate `surveyed`. Assumes nothing.
 use Prim.Native.Nat.{ℕ}
 use mathlib.Core.Path.{_≡_, refl}
-use mathlib.Core.Bool.{not}
-use mathlib.Core.List.{List, _++_, flatMap}
+use mathlib.Core.List.{List, flatMap}
 use Rattle.sums.specs.Choice.{if_then_else, allTo, sumTo, listTo}
 use Rattle.sums.specs.Fraction.{totalTo}
 use Rattle.sums.specs.Figures.{nearest}
@@ -20,12 +19,13 @@ use Rattle.locomotives.specs.Rules.{ageFactor, modeTonnes, locomotiveTonnes, gr
 use Rattle.slots.specs.Bytes.{bytesFrom, slotOf, i16At, zeroFrom, numberOf}
 use Rattle.slots.specs.Layout.{temperaturesOf, headerOf, daysOf, distancesAt, groupOf, groupGood, groupRead, coefficientsOf, coefficientsGood, coefficientsRead, bulkOf, handlingOf, handlingGood, standingOf, standingGood, aspirationOf, aspirationGood, storeKind, byKind, storeOf, storeGood, readBy, readStore, sharesOf, locomotiveOf, locomotiveGood, locomotiveRead}
 use Rattle.slot_file.specs.Sources.{coefficientSlot, groupAt, storeAt, locomotiveAt, temperaturesAt, Chains, inventoryAt}
-use Rattle.slot_file.specs.Questions.{Question, question, headAsks, member, linkAsks, coefficientHolder, coefficientAsks, rowsAsks, closingAsks, coefficientSlots, reachedBy, groupAsks, storeAsks, locomotiveAsks, reachAsks, lastAsks}
+use Rattle.slot_file.specs.Questions.{headAsks, member, linkAsks, coefficientHolder, coefficientAsks, rowsAsks, closingAsks, coefficientSlots, reachedBy, groupAsks, storeAsks, locomotiveAsks, reachAsks, lastAsks}
 use Rattle.slot_file.specs.Meaning.{askedAt}
 use Rattle.slot_file.specs.Walk.{first, chain, locomotiveWalk, storeWalk, groupWalk, outcome}
 use Rattle.slot_file.specs.Figures.{groupContributions, storeContributions, locomotiveContributions, gathered, contributions, exactSum, annualFigure, peakFigure, summed, answered, answer}
 use Rattle.slot_file.specs.Listing.{listed, text, digits, padded, fixed, line, lines, listing, refusalLine, printed}
 use Rattle.slot_file.specs.Alike.{sameList, sameStore, sameLocomotive}
+use Rattle.slot_file.specs.Demands.{seven, fourteen}
 use Rattle.slot_file.specs.Surveyed.{Right, records, locomotives, refusals, LentOfB, answerOfB, TwoStores, TwoEngines}
 
 pub as-examples : Right records × Right locomotives × Right refusals × LentOfB answerOfB × TwoStores × TwoEngines
@@ -39,12 +39,12 @@ as-examples = (
   record { ours = refl; theirs = refl; alike = record { temperatures = refl; groups = refl; stores = refl; locomotives = refl } },
 )
 
--- "Is the slot new on this walk as a group or store record?", "question 7 includes locomotives": of a link of each chain, among the sources of all three and among
--- no other slots
-abbrev seven : Chains → ℕ → Question
-seven c k = question (not (member k (c .locomotives ++ (c .stores ++ c .groups)))) 7 k
-
+-- questions 7 and 14 in other words: 7 of a link of each chain, behind 6, and 14 of a link to a locomotive, behind 9
 pub seven-asks : (s : List ℕ) (c : Chains) (k : ℕ)
     → (askedAt (groupAsks s c k) 1 ≡ seven c k) × (askedAt (storeAsks s c k) 1 ≡ seven c k) × (askedAt (locomotiveAsks s c k) 1 ≡ seven c k)
 unfolding groupAsks storeAsks locomotiveAsks linkAsks
 seven-asks s c k = (refl, refl, refl)
+
+pub fourteen-asks : (s : List ℕ) (c : Chains) (k : ℕ) → askedAt (locomotiveAsks s c k) 4 ≡ fourteen s k
+unfolding locomotiveAsks linkAsks
+fourteen-asks s c k = refl

@@ -9,7 +9,7 @@ use borrow.Author.Tests.{leb-true, eqb-false, not-true}
 use Rattle.sums.specs.Choice.{allOf}
 use Rattle.sums.proofs.Choices.{nth, left, right}
 use Rattle.vehicle_fields.specs.Fields.{pollutantCount}
-use Rattle.slot_file.specs.Sources.{Chains, locomotiveAt}
+use Rattle.slot_file.specs.Sources.{Chains}
 use Rattle.slot_file.specs.Questions.{lastNumber, listingNumber, Question, headAsks, groupsSoFar, storesSoFar, locomotivesSoFar, linkAsks, coefficientAsks, rowsAsks, closingAsks, groupLinkAsks, groupAsks, storeAsks, locomotiveAsks, reachAsks, lastAsks, refused}
 use Rattle.slot_file.specs.Walk.{outcome}
 use Rattle.slot_file.specs.Meaning.{FirstNo, here, later, Groups, Stores, Locomotives, Refuses, at-head, at-group, at-store, at-locomotive, at-last}

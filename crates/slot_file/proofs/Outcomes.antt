@@ -1,12 +1,12 @@
 -- An outcome means what the questions say, and only that outcome does. Each chain is walked by `Chains.walks`; what is asked of its slots keeps them different
 -- and below the slot count, so the walk never runs out. Assumes nothing.
 use Prim.Native.Nat.{ℕ, suc, _%_, _<_, _≤_}
-use mathlib.Core.Path.{_≡_, refl, subst, _∙_}
+use mathlib.Core.Path.{_≡_, refl, subst, subst⁻¹, _∙_}
 use mathlib.Core.Logic.{_↔_}
 use mathlib.Core.List.{List, [], _∷_, _++_}
-use mathlib.Core.Bool.{_&&_}
+use mathlib.Core.Bool.{true, _&&_, not}
 use lib.ListN.{length, length-append}
-use lib.Dec.{leb, eqb}
+use lib.Dec.{leb, ltb, eqb}
 use native.Mathlib.Omega.{arith}
 use borrow.Author.Tests.{leb-true, ltb-true, ne-eqb, not-true}
 use Rattle.sums.specs.Choice.{if_then_else}
@@ -32,29 +32,32 @@ bytes-most s h =
 pub sized : (s : List ℕ) → AllYes (headAsks s) → slotCount s ≤ mostSlots
 sized s h = let l = bytes-most s h in omega arith
 
--- the sources on good chains are different, and below the slot count
+-- slots of a chain that question 6 keeps below the slot count, and question 7 apart from the sources so far, are different, and from those before the chain
+module _ (s : List ℕ) (asks : List ℕ → ℕ → List Question) (soFar : List ℕ → List ℕ) (more : (k : ℕ) (b : List ℕ) → soFar (k ∷ b) ≡ k ∷ soFar b)
+    (new : (b : List ℕ) (k : ℕ) → AllYes (asks b k) → (ltb k (slotCount s) ≡ true) × (not (member k (soFar b)) ≡ true)) where
+  differ : (b : List ℕ) (from link : ℕ) → Different (slotCount s) (soFar []) → Chain s from b link → Good asks b → Different (slotCount s) (soFar b)
+  differ [] from link d c g = d
+  differ (k ∷ b) from link d c g =
+      let z = c .1 in
+      let n = new b k (g .0) in
+      subst⁻¹ (Different (slotCount s)) (more k b) (omega arith, ltb-true k (slotCount s) (n .0), not-true (member k (soFar b)) (n .1), differ b from k d (c .2) (g .1))
+
 pub groups-differ : (s b : List ℕ) (from link : ℕ) → Chain s from b link → Good (λ (b : List ℕ). groupAsks s (groupsSoFar b)) b → Different (slotCount s) (sourcesOf (groupsSoFar b))
 unfolding groupAsks linkAsks
-groups-differ s [] from link c g = tt
-groups-differ s (k ∷ b) from link c g =
-    let z = c .1 in
-    (omega arith, ltb-true k (slotCount s) (g .0 .0), not-true (member k b) (g .0 .1 .0), groups-differ s b from k (c .2) (g .1))
+groups-differ s b from link =
+    differ s (λ b. groupAsks s (groupsSoFar b)) (λ b. sourcesOf (groupsSoFar b)) (λ k b. refl) (λ b k a. (a .0, a .1 .0)) b from link tt
 
-pub stores-differ : (s : List ℕ) (a : Chains) (b : List ℕ) (from link : ℕ) → Different (slotCount s) (sourcesOf (groupsSoFar (a .groups))) → Chain s from b link
-    → Good (λ (b : List ℕ). storeAsks s (storesSoFar a b)) b → Different (slotCount s) (sourcesOf (storesSoFar a b))
+pub stores-differ : (s : List ℕ) (c : Chains) (b : List ℕ) (from link : ℕ) → Different (slotCount s) (sourcesOf (groupsSoFar (c .groups))) → Chain s from b link
+    → Good (λ (b : List ℕ). storeAsks s (storesSoFar c b)) b → Different (slotCount s) (sourcesOf (storesSoFar c b))
 unfolding storeAsks linkAsks
-stores-differ s a [] from link d c g = d
-stores-differ s a (k ∷ b) from link d c g =
-    let z = c .1 in
-    (omega arith, ltb-true k (slotCount s) (g .0 .0), not-true (member k (sourcesOf (storesSoFar a b))) (g .0 .1 .0), stores-differ s a b from k d (c .2) (g .1))
+stores-differ s c = differ s (λ b. storeAsks s (storesSoFar c b)) (λ b. sourcesOf (storesSoFar c b)) (λ k b. refl) (λ b k a. (a .0, a .1 .0))
 
-pub locomotives-differ : (s : List ℕ) (a : Chains) (b : List ℕ) (from link : ℕ) → Different (slotCount s) (sourcesOf (storesSoFar a (a .stores))) → Chain s from b link
-    → Good (λ (b : List ℕ). locomotiveAsks s (locomotivesSoFar a b)) b → Different (slotCount s) (sourcesOf (locomotivesSoFar a b))
+pub locomotives-differ : (s : List ℕ) (c : Chains) (b : List ℕ) (from link : ℕ) → Different (slotCount s) (sourcesOf (storesSoFar c (c .stores))) → Chain s from b link
+    → Good (λ (b : List ℕ). locomotiveAsks s (locomotivesSoFar c b)) b → Different (slotCount s) (sourcesOf (locomotivesSoFar c b))
 unfolding locomotiveAsks linkAsks
-locomotives-differ s a [] from link d c g = d
-locomotives-differ s a (k ∷ b) from link d c g =
-    let z = c .1 in
-    (omega arith, ltb-true k (slotCount s) (g .0 .0), not-true (member k (sourcesOf (locomotivesSoFar a b))) (g .0 .1 .0), locomotives-differ s a b from k d (c .2) (g .1))
+locomotives-differ s c =
+    differ s (λ b. locomotiveAsks s (locomotivesSoFar c b)) (λ b. sourcesOf (locomotivesSoFar c b)) (λ k b. refl)
+    (λ b k a. (a .0, a .1 .0))
 
 -- one link of a chain, and its end
 module _ (asks : List ℕ → ℕ → List Question) (end : List ℕ → Outcome) (s : List ℕ) where

@@ -1,5 +1,5 @@
--- 01, "Figures": when two sources are alike, and when two files are alike in their groups or in their store records. Sources have no next index and no first
--- coefficient slot (`Sources`), so two that are alike are equal: each test below goes by every field.
+-- 01, "Figures": when two sources are alike, and when two files are alike in their groups, in their store records or, by 02, U1, in their locomotives. Sources have no next
+-- index and no first coefficient slot (`Sources`), so two that are alike are equal: each test below goes by every field.
 use Prim.Native.Nat.{ℕ, _+_}
 use mathlib.Core.Path.{_≡_}
 use mathlib.Core.Bool.{Bool, true, false, _&&_, not}

@@ -1,5 +1,5 @@
--- What 01 alone says of a file: two chains, question 4 over 32..63, and the sums over groups and store records. A file without locomotives is answered so, and its
--- third count is 0 (`proofs/Before.as-before`).
+-- What 01 alone says of a file: two chains, question 4 over 32..63, and the sums over groups and store records. A file with zeros in 32..33 is answered so, and its
+-- third count is 0 (`proofs/Before.as-before`). What is asked of a group or a store record, and what it gives, is today's.
 use Prim.Native.Nat.{ℕ}
 use mathlib.Core.List.{List, [], _++_, map}
 use lib.ListN.{length}

@@ -2,7 +2,7 @@
 use Prim.Native.Nat.{ℕ, _+_, _<_, _≤_}
 use mathlib.Core.Path.{_≡_}
 use mathlib.Core.Logic.{_↔_}
-use mathlib.Core.Bool.{true, false}
+use mathlib.Core.Bool.{true, false, not}
 use mathlib.Core.List.{List, [], _∷_, _++_}
 use lib.IntN.{ℤ}
 use lib.ListN.{getD}
@@ -16,14 +16,15 @@ use Rattle.sums.specs.declared.answer.Verdict.{Verdict}
 use Rattle.vehicle_fields.specs.Fields.{pollutantCount, noCoefficients}
 use Rattle.vehicles.specs.Rules.{emissionCount, contributionOf, groupAnswer}
 use Rattle.stores.specs.Rules.{handlingContribution, standingContribution, aspirationContribution, handlingAnswer, standingAnswer, aspirationAnswer}
+use Rattle.locomotives.specs.Fields.{sharesAddUp}
 use Rattle.locomotives.specs.Rules.{substanceCount, locomotiveContribution, locomotiveAnswer}
 use Rattle.locomotives.specs.declared.fields.Locomotive.{Locomotive}
 use Rattle.slots.specs.Bytes.{slotOf}
 use Rattle.slots.specs.Layout.{coefficientsOf, coefficientsRead}
 use Rattle.slots.specs.declared.store.StoreRecord.{StoreRecord}
 use Rattle.slots.specs.declared.store.StoreRecord.the-variants.{Handling, Standing, Aspiration}
-use Rattle.slot_file.specs.Sources.{coefficientSlot, VehicleGroup, groupAt, Chains, Inventory}
-use Rattle.slot_file.specs.Questions.{lastNumber, listingNumber, slotCount, member, reachedOf}
+use Rattle.slot_file.specs.Sources.{coefficientSlot, VehicleGroup, groupAt, locomotiveAt, Chains, Inventory}
+use Rattle.slot_file.specs.Questions.{lastNumber, listingNumber, Question, question, slotCount, member, reachedOf}
 use Rattle.slot_file.specs.Meaning.{Groups, Stores, Locomotives, Accepts, Refuses}
 use Rattle.slot_file.specs.Codes.{codes}
 use Rattle.slot_file.specs.Figures.{storeContributions, gathered, contributions, exactSum, countsOf, refusal, answer}
@@ -45,6 +46,14 @@ pub record Checked (s : List ℕ) (v : Verdict) : Type 0 where
   pub same : (answer s .number ≡ v .number) × (answer s .slot ≡ v .slot)
   pub no-figures : (v .number ≡ 0 → ⊥) → answer s ≡ refusal (v .number) (v .slot)
   pub lowest : v .number ≡ 12 → (c : Chains) × Groups s c 0 × Stores s c 0 × Locomotives s c 0 × LowestUnreached s c (v .slot)
+
+-- question 7 of a link k to a source: "Is the slot new on this walk as a group or store record?", "question 7 includes locomotives", and no other slots; and 14 of a
+-- locomotive: "when a locomotive's shares don't total 1,000", at "the slot asked about"
+abbrev pub seven : Chains → ℕ → Question
+seven c k = question (not (member k (c .locomotives ++ (c .stores ++ c .groups)))) 7 k
+
+abbrev pub fourteen : List ℕ → ℕ → Question
+fourteen s k = question (sharesAddUp (locomotiveAt s k)) 14 k
 
 -- "We don't want a program that supplies a missing coefficient from a similar vehicle": a group's six coefficient slots are of the six pollutants in turn, then
 -- their chain ends, and the coefficients that it is summed with are those of these slots

@@ -1,5 +1,5 @@
--- 01, "Surveyed examples": the starred rows, as files of bytes with what they print; and files for what 01 and the letter say of refusals, of lent buffers and of
--- two desks.
+-- 01, "Surveyed examples": the starred rows, as files of bytes with what they print; locomotives by 000 and 02; and files for what 01, 02 and the letter say of
+-- refusals, of lent buffers and of two desks.
 use Prim.Native.Nat.{ℕ, _+_, _-_, _/_, _%_}
 use mathlib.Core.Path.{_≡_}
 use mathlib.Core.List.{List, [], _∷_, _++_, map, flatMap}
@@ -172,6 +172,17 @@ surveyed = yards ++ records ++ bands
 abbrev locomotive : ℕ → ℕ → List ℕ → ℕ → ℕ → ℕ → List ℕ
 locomotive next model shares hours old zone = slot (two next ++ (6 ∷ model ∷ []) ++ flatMap two shares ++ two hours ++ (old ∷ zone ∷ []))
 
+-- table 22: TGM6 and TGM4; TGM3, TGK2 and TU4
+abbrev heavy : List ℕ
+heavy = 687 ∷ 201 ∷ 89 ∷ 15 ∷ 8 ∷ []
+
+abbrev light : List ℕ
+light = 701 ∷ 194 ∷ 85 ∷ 13 ∷ 7 ∷ []
+
+-- a locomotive's slot of a kind, with the byte b at a place from 18 on
+abbrev kindly : ℕ → ℕ → ℕ → List ℕ
+kindly kind at b = slot (two 0 ++ (kind ∷ 1 ∷ []) ++ flatMap two heavy ++ two 1 ++ (0 ∷ 1 ∷ []) ++ replicate (at - 18) 0 ++ (b ∷ []))
+
 -- a file of locomotives alone, the first in slot 1
 abbrev engines : ℕ → List ℕ → List ℕ
 engines n slots = header n 0 0 1 (two 0) ++ slots
@@ -179,13 +190,6 @@ engines n slots = header n 0 0 1 (two 0) ++ slots
 -- the figures of CO, NO2 and soot
 abbrev exhaust : String → String → String → ℕ → List ℕ
 exhaust co no2 soot d = if_then_else (eqb d 301) (text no2) (if_then_else (eqb d 328) (text soot) (only 337 co d))
-
--- table 22: TGM6 and TGM4; TGM3, TGK2 and TU4
-abbrev heavy : List ℕ
-heavy = 687 ∷ 201 ∷ 89 ∷ 15 ∷ 8 ∷ []
-
-abbrev light : List ℕ
-light = 701 ∷ 194 ∷ 85 ∷ 13 ∷ 7 ∷ []
 
 unfoldable pub locomotives : List Row
 locomotives =
@@ -195,6 +199,12 @@ locomotives =
     ∷ given (engines 2 (locomotive 0 4 light 1000 0 3)) [] (sheet (exhaust " 0.109861 0.2166667" " 0.366178 0.5583333" " 0.006834 0.0194444") 0 0 1)
     -- TGM4 that only idles, the whole of a leap year: 0.64 × 8,784 × 1.2 × 1.2 × 0.7 / 1000; its greatest with a share is 0.64
     ∷ given (engines 2 (locomotive 0 2 (1000 ∷ 0 ∷ 0 ∷ 0 ∷ 0 ∷ []) 8784 1 1)) [] (sheet (exhaust " 5.666734 0.1777778" " 13.281408 0.4166667" " 0.088543 0.0027778") 0 0 1)
+    -- TGM4, CO 0.71344 kg/h, times 1,000 × 0.7 / 1000; 2.63 / 3.6
+    ∷ given (engines 2 (locomotive 0 2 heavy 1000 0 2)) [] (sheet (exhaust " 0.499408 0.7305556" " 1.570807 1.9500000" " 0.027440 0.0638889") 0 0 1)
+    -- TGM3, CO 0.60445 kg/h, times 1,000 × 0.7 / 1000; 2.66 / 3.6
+    ∷ given (engines 2 (locomotive 0 3 light 1000 0 2)) [] (sheet (exhaust " 0.423115 0.7388889" " 2.105103 2.5583333" " 0.019355 0.0722222") 0 0 1)
+    -- TGM6 that does not work: no tonnes, and the peak all the same
+    ∷ given (engines 2 (locomotive 0 1 heavy 0 1 2)) [] (sheet (exhaust " 0.000000 1.1472222" " 0.000000 4.2250000" " 0.000000 0.1055556") 0 0 1)
     -- two of TGM3 with a fifth of the time in each mode, 6.03 / 5 × 1,000 × 0.7 / 1000 each; 2.66 / 3.6 each
     ∷ given (engines 3 (locomotive 2 3 (replicate 5 200) 1000 0 2 ++ locomotive 0 3 (replicate 5 200) 1000 0 2)) []
     (sheet (exhaust " 1.688400 1.4777778" " 8.607200 5.1166667" " 0.162400 0.1444444") 0 0 2)
@@ -231,6 +241,8 @@ refusals =
     ∷ no (head 3 0 0 (two 0)) "refused 3 0\n"
     ∷ no (two 1 ++ two 1 ++ replicate 59 0 ++ (1 ∷ [])) "refused 4 0\n"
     ∷ no (two 1 ++ two 1 ++ replicate 30 0 ++ (1 ∷ []) ++ replicate 29 0) "refused 4 0\n"  -- just behind the third head
+    ∷ no (two 1 ++ two 2 ++ replicate 28 0 ++ two 1 ++ (1 ∷ []) ++ replicate 29 0 ++ locomotive 0 1 heavy 1 0 1) "refused 4 0\n"  -- and where there is a locomotive
+    ∷ no (two 1 ++ two 2 ++ replicate 28 0 ++ two 1 ++ replicate 29 0 ++ (1 ∷ []) ++ locomotive 0 1 heavy 1 0 1) "refused 4 0\n"
     ∷ no (head 1 0 0 (two 601)) "refused 5 0\n"
     ∷ no (head 1 1 0 (two 0)) "refused 6 0\n"  -- at the header, which holds the link
     ∷ no (head 2 0 1 (two 0) ++ store 2 5 2 (air 1 1 0 1)) "refused 6 1\n"
@@ -248,11 +260,20 @@ refusals =
     ∷ no (header 2 0 1 1 (two 0) ++ store 0 5 2 (air 1 1 0 1)) "refused 7 1\n"  -- a store record that the locomotive chain names
     ∷ no (engines 2 (store 0 5 2 (air 1 1 0 1))) "refused 8 1\n"
     ∷ no (head 2 0 1 (two 0) ++ locomotive 0 1 heavy 1 0 1) "refused 8 1\n"  -- a locomotive on the store chain
+    ∷ no (engines 2 (group 0 0 2)) "refused 8 1\n"  -- a group on the locomotive chain alone
+    ∷ no (engines 2 (kindly 7 18 0)) "refused 8 1\n"  -- the kind behind the last
+    ∷ no (engines 2 (locomotive 0 0 heavy 1 0 1)) "refused 9 1\n"
+    ∷ no (engines 2 (locomotive 0 1 (1001 ∷ 0 ∷ 0 ∷ 0 ∷ 0 ∷ []) 1 0 1)) "refused 9 1\n"
     ∷ no (engines 2 (locomotive 0 1 heavy 8785 0 1)) "refused 9 1\n"
     ∷ no (engines 2 (locomotive 0 1 light 1 2 1)) "refused 9 1\n"
+    ∷ no (engines 2 (locomotive 0 1 light 1 0 0)) "refused 9 1\n"
+    ∷ no (engines 2 (locomotive 0 1 light 1 0 4)) "refused 9 1\n"
+    ∷ no (engines 2 (kindly 6 18 1)) "refused 9 1\n"  -- a byte behind the zone
+    ∷ no (engines 2 (kindly 6 63 1)) "refused 9 1\n"
     ∷ no (engines 2 (locomotive 0 5 (replicate 5 1000) 1 0 1)) "refused 9 1\n"  -- 9 before 14
     ∷ no (engines 2 (locomotive 9 1 (replicate 5 199) 1 0 1)) "refused 14 1\n"  -- 14 before the next link
     ∷ no (engines 3 (locomotive 0 1 (replicate 5 201) 1 0 1 ++ slot [])) "refused 14 1\n"  -- and before 12
+    ∷ no (engines 4 (locomotive 3 1 heavy 1 0 1 ++ locomotive 0 1 heavy 1 0 1 ++ locomotive 2 1 (replicate 5 201) 1 0 1)) "refused 14 3\n"  -- at the second of three
     ∷ no (engines 3 (locomotive 0 1 heavy 1 0 1 ++ slot [])) "refused 12 2\n"
     ∷ []
 
