@@ -2,21 +2,20 @@
 use Prim.Native.Nat.{ℕ, zero, suc, _+_, _<_}
 use native.Mathlib.Omega.{arith}
 use mathlib.Core.Path.{_≡_, refl, sym, ap, subst, _∙_}
-use mathlib.Core.Bool.{Bool, true, false}
+use mathlib.Core.Bool.{Bool, true}
 use mathlib.Core.List.{List, [], _∷_, _++_}
 use lib.IntN.{ℤ}
 use lib.ListN.{getD, length, set, length-append}
 use Rattle.sums.specs.Choice.{if_then_else, listTo}
+use Rattle.sums.proofs.Choices.{both}
 use Rattle.sums.specs.Answer.{Contribution, emitted}
 use Rattle.sums.specs.declared.answer.Emission.{Emission}
 use Rattle.stores.specs.Rules.{handlingContribution, standingContribution, aspirationContribution}
 use Rattle.stores.proofs.Exactly.{handling-emitted, standing-emitted, aspiration-emitted}
 use Rattle.vehicle_fields.specs.Fields.{pollutantCount, noCoefficients}
-use Rattle.vehicles.specs.declared.rule.GroupAnswer.{GroupAnswer}
 use Rattle.vehicles.specs.Rules.{emissionCount, contributionOf, emissionOf, emissionsOf, groupAnswer}
 use Rattle.locomotives.specs.Rules.{substanceCount, locomotiveContribution, locomotiveEmissions, locomotiveAnswer}
 use Rattle.locomotives.specs.declared.fields.Locomotive.{Locomotive}
-use Rattle.locomotives.specs.declared.rule.LocomotiveAnswer.{LocomotiveAnswer}
 use Rattle.slots.specs.Bytes.{slotOf}
 use Rattle.slots.specs.Layout.{readStore}
 use Rattle.slots.specs.declared.store.StoreRecord.{StoreRecord}
@@ -36,7 +35,7 @@ use Rattle.totals.proofs.Adding.{plus-room, plus-to-room}
 use Rattle.totals.proofs.Sums.{same-sums, plus-emitted, plus-all}
 use Rattle.walk.specs.Rows.{marksTo}
 use Rattle.walk.specs.Steps.{GroupStepped, StoreStepped, LocomotiveStepped}
-use Rattle.walk.specs.Walked.{sumsOf, ChainWalked, plusGroup, GroupsPassed, GroupsEnded, recordEmission, storeEmission, plusStore, StoresPassed, StoresEnded, plusLocomotive, LocomotivesPassed, LocomotivesEnded}
+use Rattle.walk.specs.Walked.{sumsOf, ChainWalked, Ended, plusGroup, GroupsPassed, recordEmission, storeEmission, plusStore, StoresPassed, plusLocomotive, LocomotivesPassed}
 use Rattle.walk.specs.declared.walked.Walked.{Walked}
 use Rattle.walk.specs.declared.group_chain.GroupStep.{GroupStep}
 use Rattle.walk.specs.declared.store_chain.StoreStep.{StoreStep}
@@ -51,21 +50,12 @@ module _ {s : List ℕ} {Ended : Counts → Type 0} {r : Walked} where
   pub walk-ended : r .verdict .number ≡ 0 → Ended (r .counts) → ChainWalked s Ended r
   walk-ended y e = record { refuses = λ z. absurd (z y); ended = λ _. e }
 
+pub ended : (Passed : ℕ → ℕ → Counts → Type 0) (holder link : ℕ) (counts : Counts) → Passed holder link counts → link ≡ 0 → Ended Passed counts
+ended Passed holder link counts p z = record { holder = holder; passed = subst (λ (k : ℕ). Passed holder k counts) z p }
+
 -- adding keeps the room
-group-room : (summing : Bool) (l : List ℕ) (a : GroupAnswer) → length (plusGroup summing l a) ≡ length l
-unfolding plusGroup if_then_else
-group-room true l a = plus-to-room l (a .emissions) emissionCount
-group-room false l a = refl
-
-store-room : (summing : Bool) (l : List ℕ) (r : StoreRead) → length (plusStore summing l r) ≡ length l
-unfolding plusStore if_then_else
-store-room true l r = plus-room l (storeEmission r)
-store-room false l r = refl
-
-locomotive-room : (summing : Bool) (l : List ℕ) (a : LocomotiveAnswer) → length (plusLocomotive summing l a) ≡ length l
-unfolding plusLocomotive if_then_else
-locomotive-room true l a = plus-to-room l (a .emissions) substanceCount
-locomotive-room false l a = refl
+same-room : (summing : Bool) (l m : List ℕ) → length m ≡ length l → length (if_then_else summing m l) ≡ length l
+same-room summing l m e = both (λ (x : List ℕ). length x ≡ length l) summing e refl
 
 module _ (s : List ℕ) where
   group-summed : (gs : List ℕ) (g : ℕ) (l : List ℕ) → Sums (sumsOf s (groupsSoFar gs)) l
@@ -94,11 +84,6 @@ module _ (s : List ℕ) where
         → GroupsPassed s summing sources reached totals holder link counts → counts .groups < mostSlots
     groups-few p = omega (arith, groups-short (p .chain), ap (λ (n : Counts). n .groups) (p .holds .counts-are))
 
-    pub groups-ended : {summing : Bool} {sources reached : List Bool} {totals : List ℕ} {holder link : ℕ} {counts : Counts}
-        → GroupsPassed s summing sources reached totals holder link counts → link ≡ 0 → GroupsEnded s summing sources reached totals counts
-    groups-ended {summing} {sources} {reached} {totals} {holder} {link} {counts} p z =
-        record { holder = holder; passed = subst (λ (k : ℕ). GroupsPassed s summing sources reached totals holder k counts) z p }
-
     pub group-passed : {summing : Bool} {sources sources′ reached reached′ : List Bool} {totals totals′ : List ℕ} {holder link : ℕ} {counts : Counts} {r : GroupStep}
         → GroupsPassed s summing sources reached totals holder link counts → (link ≡ 0 → ⊥)
         → GroupStepped s holder link sources sources′ reached reached′ r → r .verdict .number ≡ 0
@@ -119,7 +104,7 @@ module _ (s : List ℕ) where
             counts-are = λ i. record { groups = n i; stores = h′ .counts-are i .stores; locomotives = h′ .counts-are i .locomotives };
             sources-are = q .source-marked ∙ ap (λ (l : List Bool). set l g true) (h′ .sources-are);
             reached-are = q .slots-marked ∙ ap (λ (l : List Bool). marksTo s g (set l g true) pollutantCount) (h′ .reached-are) ∙ group-marked (p .gs) g;
-            room = ap length d ∙ group-room summing totals (groupAnswer (r .group) (temperaturesAt s) (r .coefficients)) ∙ h′ .room;
+            room = ap length d ∙ same-room summing totals (plusToIn totals (groupAnswer (r .group) (temperaturesAt s) (r .coefficients) .emissions) emissionCount) (plus-to-room totals _ emissionCount) ∙ h′ .room;
             sums-are = λ e.
                 subst (Sums (sumsOf s (groupsSoFar (g ∷ p .gs))))
                 (sym (d ∙ ap (λ (b : Bool). plusGroup b totals (groupAnswer (r .group) (temperaturesAt s) (r .coefficients))) e
@@ -164,11 +149,6 @@ module _ (s : List ℕ) (h : AllYes (headAsks s)) where
       → StoresPassed s summing sources reached totals holder link counts → counts .stores < mostSlots
   stores-few p = omega (arith, stores-short (p .c) (p .group-chain) (p .chain), ap (λ (n : Counts). n .stores) (p .holds .counts-are))
 
-  pub stores-ended : {summing : Bool} {sources reached : List Bool} {totals : List ℕ} {holder link : ℕ} {counts : Counts}
-      → StoresPassed s summing sources reached totals holder link counts → link ≡ 0 → StoresEnded s summing sources reached totals counts
-  stores-ended {summing} {sources} {reached} {totals} {holder} {link} {counts} p z =
-      record { holder = holder; passed = subst (λ (k : ℕ). StoresPassed s summing sources reached totals holder k counts) z p }
-
   pub store-passed : {summing : Bool} {sources sources′ reached reached′ : List Bool} {totals totals′ : List ℕ} {holder link : ℕ} {counts : Counts} {r : StoreStep}
       → StoresPassed s summing sources reached totals holder link counts → (link ≡ 0 → ⊥)
       → StoreStepped s holder link sources sources′ reached reached′ r → r .verdict .number ≡ 0
@@ -189,7 +169,7 @@ module _ (s : List ℕ) (h : AllYes (headAsks s)) where
           counts-are = λ i. record { groups = h′ .counts-are i .groups; stores = n i; locomotives = h′ .counts-are i .locomotives };
           sources-are = q .source-marked ∙ ap (λ (l : List Bool). set l k true) (h′ .sources-are);
           reached-are = q .slot-marked ∙ ap (λ (l : List Bool). set l k true) (h′ .reached-are);
-          room = ap length d ∙ store-room summing totals (r .read) ∙ h′ .room;
+          room = ap length d ∙ same-room summing totals (plusIn totals (storeEmission (r .read))) (plus-room totals (storeEmission (r .read))) ∙ h′ .room;
           sums-are = λ e.
               subst (Sums (sumsOf s (storesSoFar (p .c) (k ∷ p .c .stores))))
               (sym (d ∙ ap (λ (b : Bool). plusStore b totals (r .read)) e ∙ (λ i. plusIn totals (storeEmission (t .read i)))))
@@ -216,11 +196,6 @@ module _ (s : List ℕ) (h : AllYes (headAsks s)) where
       → LocomotivesPassed s summing sources reached totals holder link counts → counts .locomotives < mostSlots
   locomotives-few p = omega (arith, locomotives-short (p .c) (p .group-chain) (p .store-chain) (p .chain), ap (λ (n : Counts). n .locomotives) (p .holds .counts-are))
 
-  pub locomotives-ended : {summing : Bool} {sources reached : List Bool} {totals : List ℕ} {holder link : ℕ} {counts : Counts}
-      → LocomotivesPassed s summing sources reached totals holder link counts → link ≡ 0 → LocomotivesEnded s summing sources reached totals counts
-  locomotives-ended {summing} {sources} {reached} {totals} {holder} {link} {counts} p z =
-      record { holder = holder; passed = subst (λ (k : ℕ). LocomotivesPassed s summing sources reached totals holder k counts) z p }
-
   pub locomotive-passed : {summing : Bool} {sources sources′ reached reached′ : List Bool} {totals totals′ : List ℕ} {holder link : ℕ} {counts : Counts} {r : LocomotiveStep}
       → LocomotivesPassed s summing sources reached totals holder link counts → (link ≡ 0 → ⊥)
       → LocomotiveStepped s holder link sources sources′ reached reached′ r → r .verdict .number ≡ 0
@@ -242,7 +217,7 @@ module _ (s : List ℕ) (h : AllYes (headAsks s)) where
           counts-are = λ i. record { groups = h′ .counts-are i .groups; stores = h′ .counts-are i .stores; locomotives = n i };
           sources-are = q .source-marked ∙ ap (λ (l : List Bool). set l k true) (h′ .sources-are);
           reached-are = q .slot-marked ∙ ap (λ (l : List Bool). set l k true) (h′ .reached-are);
-          room = ap length d ∙ locomotive-room summing totals (locomotiveAnswer (r .locomotive)) ∙ h′ .room;
+          room = ap length d ∙ same-room summing totals (plusToIn totals (locomotiveAnswer (r .locomotive) .emissions) substanceCount) (plus-to-room totals _ substanceCount) ∙ h′ .room;
           sums-are = λ e.
               subst (Sums (sumsOf s (locomotivesSoFar (p .c) (k ∷ p .c .locomotives))))
               (sym (d ∙ ap (λ (b : Bool). plusLocomotive b totals (locomotiveAnswer (r .locomotive))) e

@@ -51,6 +51,11 @@ pub record ChainWalked (s : List ℕ) (Ended : Counts → Type 0) (r : Walked) :
   pub refuses : (r .verdict .number ≡ 0 → ⊥) → Refuses s (r .verdict .number) (r .verdict .slot)
   pub ended : r .verdict .number ≡ 0 → Ended (r .counts)
 
+-- a chain that is passed up to a zero link
+pub record Ended (Passed : ℕ → ℕ → Counts → Type 0) (counts : Counts) : Type 0 where
+  pub holder : ℕ
+  pub passed : Passed holder 0 counts
+
 unfoldable pub plusGroup : Bool → List ℕ → GroupAnswer → List ℕ
 plusGroup summing l a = if_then_else summing (plusToIn l (a .emissions) emissionCount) l
 
@@ -70,9 +75,8 @@ pub record GroupsPassed (s : List ℕ) (summing : Bool) (sources reached : List 
   pub holds : Holds s summing sources reached totals counts (groupsSoFar gs)
 
 -- and the chain is at its end
-pub record GroupsEnded (s : List ℕ) (summing : Bool) (sources reached : List Bool) (totals : List ℕ) (counts : Counts) : Type 0 where
-  pub holder : ℕ
-  pub passed : GroupsPassed s summing sources reached totals holder 0 counts
+abbrev pub GroupsEnded : List ℕ → Bool → List Bool → List Bool → List ℕ → Counts → Type 0
+GroupsEnded s summing sources reached totals = Ended (GroupsPassed s summing sources reached totals)
 
 abbrev pub GroupsWalked : List ℕ → Bool → List Bool → List Bool → List ℕ → Walked → Type 0
 GroupsWalked s summing sources reached totals r = ChainWalked s (GroupsEnded s summing sources reached totals) r
@@ -105,10 +109,9 @@ pub record StoresPassed (s : List ℕ) (summing : Bool) (sources reached : List 
   pub holder-is : holder ≡ lastOf (c .stores)
   pub holds : Holds s summing sources reached totals counts (storesSoFar c (c .stores))
 
--- and both chains are at their ends
-pub record StoresEnded (s : List ℕ) (summing : Bool) (sources reached : List Bool) (totals : List ℕ) (counts : Counts) : Type 0 where
-  pub holder : ℕ
-  pub passed : StoresPassed s summing sources reached totals holder 0 counts
+-- and the chain is at its end
+abbrev pub StoresEnded : List ℕ → Bool → List Bool → List Bool → List ℕ → Counts → Type 0
+StoresEnded s summing sources reached totals = Ended (StoresPassed s summing sources reached totals)
 
 abbrev pub StoresWalked : List ℕ → Bool → List Bool → List Bool → List ℕ → Walked → Type 0
 StoresWalked s summing sources reached totals r = ChainWalked s (StoresEnded s summing sources reached totals) r
@@ -131,10 +134,9 @@ pub record LocomotivesPassed (s : List ℕ) (summing : Bool) (sources reached : 
   pub holder-is : holder ≡ lastOf (c .locomotives)
   pub holds : Holds s summing sources reached totals counts (locomotivesSoFar c (c .locomotives))
 
--- and all chains are at their ends
-pub record LocomotivesEnded (s : List ℕ) (summing : Bool) (sources reached : List Bool) (totals : List ℕ) (counts : Counts) : Type 0 where
-  pub holder : ℕ
-  pub passed : LocomotivesPassed s summing sources reached totals holder 0 counts
+-- and the chain is at its end
+abbrev pub LocomotivesEnded : List ℕ → Bool → List Bool → List Bool → List ℕ → Counts → Type 0
+LocomotivesEnded s summing sources reached totals = Ended (LocomotivesPassed s summing sources reached totals)
 
 abbrev pub LocomotivesWalked : List ℕ → Bool → List Bool → List Bool → List ℕ → Walked → Type 0
 LocomotivesWalked s summing sources reached totals r = ChainWalked s (LocomotivesEnded s summing sources reached totals) r

@@ -13,7 +13,7 @@ use Rattle.slot_file.proofs.Outcomes.{bytes-most}
 use Rattle.totals.specs.Totals.{Sums}
 use Rattle.totals.proofs.Sums.{no-sums}
 use Rattle.walk.specs.Walked.{GroupsPassed}
-use Rattle.walk.proofs.Passing.{walk-refused, walk-ended, groups-few, groups-ended, group-passed}
+use Rattle.walk.proofs.Passing.{walk-refused, walk-ended, groups-few, ended, group-passed}
 use Rattle.walk.proofs.group_chain.walk_groups.Statement.{statement}
 use Rattle.walk.proofs.group_chain.walk_groups.Tie as tie
 
@@ -97,7 +97,7 @@ same-length-2 c = same-room (c .before)
 returns-2 : tie.Need-returns-2 Inv-loop μ-loop
 returns-2 c =
     let b = c .before in
-    walk-ended refl (groups-ended _ (at-start b .pre .head) (b .loop .inv) (c .loop-test .left))
+    walk-ended refl (ended _ (b .loop .holder) (b .loop .link) (b .loop .counts) (b .loop .inv) (c .loop-test .left))
 
 pub walk-groups-spec : {M : Type 1} → statement M
 walk-groups-spec =

@@ -9,7 +9,7 @@ use Rattle.slot_file.specs.Questions.{mostSlots, storesSoFar, locomotivesSoFar}
 use Rattle.slot_file.specs.Meaning.{at-locomotive}
 use Rattle.slot_file.proofs.Outcomes.{bytes-most}
 use Rattle.walk.specs.Walked.{LocomotivesPassed}
-use Rattle.walk.proofs.Passing.{walk-refused, walk-ended, locomotives-few, locomotives-ended, locomotive-passed}
+use Rattle.walk.proofs.Passing.{walk-refused, walk-ended, locomotives-few, ended, locomotive-passed}
 use Rattle.walk.proofs.locomotive_chain.walk_locomotives.Statement.{statement}
 use Rattle.walk.proofs.locomotive_chain.walk_locomotives.Tie as tie
 
@@ -33,9 +33,12 @@ loop-holds c =
       holds = p .holds;
     }
 
--- back from where a locomotive is added to where it is stepped on, to the loop, and to the start
+-- back from where a locomotive is added to where it has passed, to where it is stepped on, to the loop, and to the start
+abbrev at-passed : tie.After-add-locomotive Inv-loop μ-loop → tie.Else1 Inv-loop μ-loop
+at-passed c = c .before .before .before
+
 abbrev at-step : tie.After-add-locomotive Inv-loop μ-loop → tie.After-step-locomotive Inv-loop μ-loop
-at-step c = c .before .before .before .before .before .before
+at-step c = at-passed c .before .before .before
 
 abbrev at-loop : tie.After-step-locomotive Inv-loop μ-loop → tie.At-loop Inv-loop μ-loop
 at-loop c = c .before .before .before .before
@@ -78,7 +81,7 @@ loop-again c =
     let l = c .before .before .before in
     let d = at-step l in
     let b = at-loop d in
-    locomotive-passed _ (at-start b .pre .head) (b .loop .inv) (d .before .before .before .loop-test .taken) (d .step-locomotive .ensures) (l .before .before .before .if1 .left)
+    locomotive-passed _ (at-start b .pre .head) (b .loop .inv) (d .before .before .before .loop-test .taken) (d .step-locomotive .ensures) (at-passed l .if1 .left)
     (l .add-locomotive .ensures)
 
 same-length-2 : tie.Need-same-length-2 Inv-loop μ-loop
@@ -87,7 +90,7 @@ same-length-2 c = same-room (c .before)
 returns-2 : tie.Need-returns-2 Inv-loop μ-loop
 returns-2 c =
     let b = c .before in
-    walk-ended refl (locomotives-ended _ (at-start b .pre .head) (b .loop .inv) (c .loop-test .left))
+    walk-ended refl (ended _ (b .loop .holder) (b .loop .link) (b .loop .counts) (b .loop .inv) (c .loop-test .left))
 
 pub walk-locomotives-spec : {M : Type 1} → statement M
 walk-locomotives-spec =

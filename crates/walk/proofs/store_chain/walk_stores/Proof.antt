@@ -9,7 +9,7 @@ use Rattle.slot_file.specs.Questions.{mostSlots, groupsSoFar, storesSoFar}
 use Rattle.slot_file.specs.Meaning.{at-store}
 use Rattle.slot_file.proofs.Outcomes.{bytes-most}
 use Rattle.walk.specs.Walked.{StoresPassed}
-use Rattle.walk.proofs.Passing.{walk-refused, walk-ended, stores-few, stores-ended, store-passed}
+use Rattle.walk.proofs.Passing.{walk-refused, walk-ended, stores-few, ended, store-passed}
 use Rattle.walk.proofs.store_chain.walk_stores.Statement.{statement}
 use Rattle.walk.proofs.store_chain.walk_stores.Tie as tie
 
@@ -86,7 +86,7 @@ same-length-2 c = same-room (c .before)
 returns-2 : tie.Need-returns-2 Inv-loop μ-loop
 returns-2 c =
     let b = c .before in
-    walk-ended refl (stores-ended _ (at-start b .pre .head) (b .loop .inv) (c .loop-test .left))
+    walk-ended refl (ended _ (b .loop .holder) (b .loop .link) (b .loop .counts) (b .loop .inv) (c .loop-test .left))
 
 pub walk-stores-spec : {M : Type 1} → statement M
 walk-stores-spec =
