@@ -45,5 +45,5 @@ pub fn give_locomotive(a: LocomotiveAnswer, out: &mut [u64]) -> bool
     es[0] = given[0];
     es[1] = given[1];
     es[2] = given[2];
-    numbers::give_rule(a.verdict, es, locomotives::EMISSIONS, out)
+    numbers::give_rule(a.verdict, es, locomotives::SUBSTANCES, out)
 }

@@ -15,9 +15,9 @@ use Rattle.sums.proofs.Products.{_⊗_}
 use Rattle.sums.proofs.Sources.{bounded, exactly}
 use Rattle.locomotives.specs.Fields.{modeCount, locomotiveInRange, sharesAddUp}
 use Rattle.locomotives.specs.Rules.{substanceCount, locomotiveTonnes, locomotivePeak, locomotiveContribution, locomotiveEmissions, locomotiveAnswer}
-use Rattle.locomotives.specs.Parts.{rateParts, meanParts, greatestParts, hourParts}
+use Rattle.locomotives.specs.Parts.{hourlyParts, meanParts, greatestParts, hourParts}
 use Rattle.locomotives.specs.declared.fields.Locomotive.{Locomotive}
-use Rattle.locomotives.proofs.Scales.{rate-scaled, zone-scaled, age-scaled}
+use Rattle.locomotives.proofs.Scales.{hourly-scaled, zone-scaled, age-scaled}
 use Rattle.locomotives.proofs.Ranges.{ranged}
 use Rattle.locomotives.proofs.Paper.{locomotive-counted}
 
@@ -27,7 +27,7 @@ greatest-most l p zero = omega arith
 greatest-most l p (suc k) =
     let a = greatestParts l p k in
     both (λ (x : ℕ). x ≤ 15210) (eqb (getD (l .shares) k 0) 0) (greatest-most l p k)
-    (both (λ (x : ℕ). x ≤ 15210) (leb a (rateParts l p k)) (rate-scaled l p k .most) (greatest-most l p k))
+    (both (λ (x : ℕ). x ≤ 15210) (leb a (hourlyParts l p k)) (hourly-scaled l p k .most) (greatest-most l p k))
 
 module _ (l : Locomotive) (h : locomotiveInRange l ≡ true) where
   pub hour-most : hourParts l ≤ 8784 * 12 * 12 * 7
@@ -37,7 +37,7 @@ module _ (l : Locomotive) (h : locomotiveInRange l ≡ true) where
   pub mean-most : (p n : ℕ) → n ≤ modeCount → meanParts l p n ≤ modeCount * (15210 * 1000)
   unfolding meanParts
   mean-most p n f =
-      let s = sumTo-bound (15210 * 1000) (λ (k : ℕ). rateParts l p k * getD (l .shares) k 0) n (λ (k : ℕ) (q : k < n). rate-scaled l p k .most ⊗ ranged l h .share k (omega arith)) in
+      let s = sumTo-bound (15210 * 1000) (λ (k : ℕ). hourlyParts l p k * getD (l .shares) k 0) n (λ (k : ℕ) (q : k < n). hourly-scaled l p k .most ⊗ ranged l h .share k (omega arith)) in
       omega arith
 
   module _ (p : ℕ) where

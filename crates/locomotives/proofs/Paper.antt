@@ -14,10 +14,10 @@ use Rattle.sums.specs.Exactness.{Counted}
 use Rattle.sums.proofs.Choices.{sumTo-times}
 use Rattle.sums.proofs.Fractions.{≈-refl, ≈-⊙, ≈-per, ≈-over, totalTo-parts}
 use Rattle.locomotives.specs.Fields.{modeCount}
-use Rattle.locomotives.specs.Rules.{modeTonnes, locomotiveTonnes, larger, greatestRate, locomotivePeak}
-use Rattle.locomotives.specs.Parts.{rateParts, meanParts, largerParts, greatestParts, hourParts, massUnits, rateUnits}
+use Rattle.locomotives.specs.Rules.{modeTonnes, locomotiveTonnes, larger, greatestHourly, locomotivePeak}
+use Rattle.locomotives.specs.Parts.{hourlyParts, meanParts, largerParts, greatestParts, hourParts, yearUnits, peakUnits}
 use Rattle.locomotives.specs.declared.fields.Locomotive.{Locomotive}
-use Rattle.locomotives.proofs.Scales.{rate-scaled, zone-scaled, age-scaled}
+use Rattle.locomotives.proofs.Scales.{hourly-scaled, zone-scaled, age-scaled}
 
 -- by a test, a choice of parts is the parts of a choice
 choose : (t : Bool) {x y : Frac} {a b d : ℕ} → x ≈ (a over d) → y ≈ (b over d) → if_then_else t x y ≈ (if_then_else t a b over d)
@@ -49,26 +49,26 @@ module _ {x y : Frac} {a b d : ℕ} (p : x ≈ (a over d)) (q : y ≈ (b over d)
   larger-same = rw ordered (choose (leb a b) q p)
 
 module _ (l : Locomotive) (p : ℕ) where
-  greatest : (n : ℕ) → greatestRate l p n ≈ (greatestParts l p n over 1000)
-  unfolding greatestRate greatestParts
+  greatest : (n : ℕ) → greatestHourly l p n ≈ (greatestParts l p n over 1000)
+  unfolding greatestHourly greatestParts
   greatest zero = record { left = lit< tt; right = lit< tt; cross = omega arith }
-  greatest (suc k) = choose (eqb (getD (l .shares) k 0) 0) (greatest k) (larger-same (greatest k) (rate-scaled l p k .same))
+  greatest (suc k) = choose (eqb (getD (l .shares) k 0) 0) (greatest k) (larger-same (greatest k) (hourly-scaled l p k .same))
 
-  mode : (k : ℕ) → modeTonnes l p k ≈ ((rateParts l p k * getD (l .shares) k 0 * hourParts l) over 1000000000000)
+  mode : (k : ℕ) → modeTonnes l p k ≈ ((hourlyParts l p k * getD (l .shares) k 0 * hourParts l) over 1000000000000)
   unfolding modeTonnes hourParts
   mode k =
       ≈-over _ _ (lit< tt) (omega arith)
       (≈-per 1000 (lit< tt)
-      (≈-⊙ (≈-⊙ (≈-⊙ (≈-⊙ (≈-⊙ (rate-scaled l p k .same) (≈-refl (getD (l .shares) k 0) 1000 (lit< tt))) (≈-refl (l .hours) 1 (lit< tt)))
+      (≈-⊙ (≈-⊙ (≈-⊙ (≈-⊙ (≈-⊙ (hourly-scaled l p k .same) (≈-refl (getD (l .shares) k 0) 1000 (lit< tt))) (≈-refl (l .hours) 1 (lit< tt)))
       (age-scaled (l .old) .same)) (zone-scaled (l .zone) .same)) (≈-refl 7 10 (lit< tt))))
 
   -- a substance's tonnes and rate, in exact units
-  pub locomotive-counted : Counted (locomotiveTonnes l p) (locomotivePeak l p) (meanParts l p modeCount * hourParts l * massUnits) (greatestParts l p modeCount * rateUnits)
+  pub locomotive-counted : Counted (locomotiveTonnes l p) (locomotivePeak l p) (meanParts l p modeCount * hourParts l * yearUnits) (greatestParts l p modeCount * peakUnits)
   unfolding locomotiveTonnes locomotivePeak meanParts
   locomotive-counted = record {
     annual =
         ≈-over _ _ (lit< tt) (omega arith)
-        (rw (sumTo-times (hourParts l) (λ (k : ℕ). rateParts l p k * getD (l .shares) k 0) modeCount)
-        at (totalTo-parts (modeTonnes l p) (λ (k : ℕ). rateParts l p k * getD (l .shares) k 0 * hourParts l) 1000000000000 (lit< tt) modeCount (λ (k : ℕ) (h : k < modeCount). mode k)));
+        (rw (sumTo-times (hourParts l) (λ (k : ℕ). hourlyParts l p k * getD (l .shares) k 0) modeCount)
+        at (totalTo-parts (modeTonnes l p) (λ (k : ℕ). hourlyParts l p k * getD (l .shares) k 0 * hourParts l) 1000000000000 (lit< tt) modeCount (λ (k : ℕ) (h : k < modeCount). mode k)));
     peak = ≈-over _ _ (lit< tt) (omega arith) (≈-⊙ (greatest modeCount) (≈-refl 10 36 (lit< tt)));
   }

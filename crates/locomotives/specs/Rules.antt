@@ -37,12 +37,12 @@ table21 =
     ++ hundredths 45 88 154 175 201
     ++ 4 over 1000 ∷ 2 over 100 ∷ 5 over 100 ∷ 6 over 100 ∷ 7 over 100 ∷ []
 
--- where the row of a type and a substance begins, "type, 1 to 4 in the order of 000 Table 21"; the substance and the mode from 0
+-- the place of a type, "1 to 4 in the order of 000 Table 21", a substance and a mode, both from 0
 abbrev pub placeIn : ℕ → ℕ → ℕ → ℕ
 placeIn model p k = modeCount * (substanceCount * (model - 1) + p) + k
 
-abbrev pub rateAt : Locomotive → ℕ → ℕ → Frac
-rateAt l p k = getD table21 (placeIn (l .model) p k) (whole 0)
+abbrev pub hourlyAt : Locomotive → ℕ → ℕ → Frac
+hourlyAt l p k = getD table21 (placeIn (l .model) p k) (whole 0)
 
 -- "(1.2 if old, else 1)"
 unfoldable pub ageFactor : ℕ → Frac
@@ -58,7 +58,7 @@ zoneFactor zone = getD zoneTable (zone - 1) (whole 0)
 -- "kg/h × share × hours × (1.2 if old, else 1) × (1.2, 1, 0.8 by zone) × 0.7 / 1000", of one mode
 unfoldable pub modeTonnes : Locomotive → ℕ → ℕ → Frac
 modeTonnes l p k =
-    rateAt l p k ⊙ (getD (l .shares) k 0 over 1000) ⊙ whole (l .hours) ⊙ ageFactor (l .old) ⊙ zoneFactor (l .zone) ⊙ (7 over 10) per 1000
+    hourlyAt l p k ⊙ (getD (l .shares) k 0 over 1000) ⊙ whole (l .hours) ⊙ ageFactor (l .old) ⊙ zoneFactor (l .zone) ⊙ (7 over 10) per 1000
 
 -- "Annual tonnes are the sum over the five modes"
 unfoldable pub locomotiveTonnes : Locomotive → ℕ → Frac
@@ -69,13 +69,13 @@ abbrev pub larger : Frac → Frac → Frac
 larger x y = if_then_else (leb (x .num * y .den) (y .num * x .den)) y x
 
 -- "the greatest kg/h among modes with a nonzero share", of the first n modes
-unfoldable pub greatestRate : Locomotive → ℕ → ℕ → Frac
-greatestRate l p zero = whole 0
-greatestRate l p (suc k) = if_then_else (eqb (getD (l .shares) k 0) 0) (greatestRate l p k) (larger (greatestRate l p k) (rateAt l p k))
+unfoldable pub greatestHourly : Locomotive → ℕ → ℕ → Frac
+greatestHourly l p zero = whole 0
+greatestHourly l p (suc k) = if_then_else (eqb (getD (l .shares) k 0) 0) (greatestHourly l p k) (larger (greatestHourly l p k) (hourlyAt l p k))
 
 -- "The peak is the greatest kg/h among modes with a nonzero share, over 3.6", in grams per second
 unfoldable pub locomotivePeak : Locomotive → ℕ → Frac
-locomotivePeak l p = greatestRate l p modeCount ⊙ (10 over 36)
+locomotivePeak l p = greatestHourly l p modeCount ⊙ (10 over 36)
 
 -- what a locomotive gives of the substance at a place
 abbrev pub locomotiveContribution : Locomotive → ℕ → Contribution

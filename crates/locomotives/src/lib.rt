@@ -7,6 +7,6 @@ pub use fields::Locomotive;
 pub use fields::MODES;
 pub use fields::locomotive_in_range;
 pub use fields::shares_add_up;
-pub use rule::EMISSIONS;
 pub use rule::LocomotiveAnswer;
+pub use rule::SUBSTANCES;
 pub use rule::locomotive_emissions;

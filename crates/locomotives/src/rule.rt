@@ -1,74 +1,88 @@
 // What a locomotive gives of each substance.
 ghost use mathlib.Core.Path.{_≡_};
 ghost use mathlib.Core.Bool.{true};
-ghost use Prim.Native.Nat.{_+_, _*_, _<_, _≤_};
-ghost use lib.Dec.{eqb};
-ghost use Rattle.sums.specs.Choice.{if_then_else};
-ghost use Rattle.sums.specs.Answer.{emitted};
+ghost use Prim.Native.Nat.{_+_, _<_, _≤_};
 ghost use Rattle.locomotives.specs.Fields.{modeCount, locomotiveInRange};
-ghost use Rattle.locomotives.specs.Rules.{substanceCount, locomotiveContribution, locomotiveEmissions, locomotiveRefusal, locomotiveAnswer};
-ghost use Rattle.locomotives.specs.Parts.{meanParts, largerParts, greatestParts, hourParts};
+ghost use Rattle.locomotives.specs.Rules.{substanceCount, locomotiveEmissions, locomotiveRefusal, locomotiveAnswer};
+ghost use Rattle.locomotives.specs.Parts.{hourlyOf, allModes, withRate, hourParts, emissionParts};
 use super::fields;
 use super::fields::Locomotive;
 use super::fields::MODES;
 use super::table;
+use super::table::RATES;
 use sums::AnnualSum;
 use sums::Emission;
 use sums::PeakSum;
 use sums::Verdict;
 
 // How many emissions a locomotive's answer holds: CO, NO2, soot.
-pub const EMISSIONS: usize = 3;
+pub const SUBSTANCES: usize = 3;
 
-const CODES: [u16; EMISSIONS] = [337, 301, 328];
+const CODES: [u16; SUBSTANCES] = [337, 301, 328];
 
 pub struct LocomotiveAnswer {
     pub verdict: Verdict,
-    pub emissions: [Emission; EMISSIONS],
+    pub emissions: [Emission; SUBSTANCES],
 }
 
 // Kilograms per hour of the modes: by their shares, in millionths, and the greatest of those with a share, in thousandths.
-pub struct Modes {
-    pub mean: u64,
-    pub greatest: u16,
+pub(crate) struct Modes {
+    pub(crate) mean: u64,
+    pub(crate) greatest: u64,
 }
 
-// One mode more.
-fn with_mode(m: Modes, rate: u16, share: u16) -> Modes
-    requires { ⌜ m .mean ≤ 1000000000000 ⌝ }
-    ensures { λ r. ⌜ (r .mean ≡ m .mean + rate * share) × (r .greatest ≡ if_then_else (eqb share 0) (m .greatest) (largerParts (m .greatest) rate)) ⌝ }
+// Of each substance.
+pub(crate) struct AllModes {
+    pub(crate) co: Modes,
+    pub(crate) no2: Modes,
+    pub(crate) soot: Modes,
+}
+
+// One mode more, that has a share: its rate of one substance.
+fn with_rate(m: Modes, rate: u64, share: u16) -> Modes
+    requires { ⌜ (m .mean ≤ 1000000000000) × (rate ≤ 15210) ⌝ }
+    ensures { λ r. ⌜ r ≡ withRate m rate share ⌝ }
 {
-    let mean = m.mean + rate as u64 * share as u64;
-    if share == 0 {
-        Modes {
-            mean,
-            greatest: m.greatest,
-        }
-    } else if m.greatest <= rate {
-        Modes {
-            mean,
-            greatest: rate,
-        }
-    } else {
-        Modes {
-            mean,
-            greatest: m.greatest,
-        }
+    Modes {
+        mean: m.mean + rate * share as u64,
+        greatest: if m.greatest <= rate { rate } else { m.greatest },
     }
 }
 
-fn modes_of(l: Locomotive, place: usize) -> Modes
-    requires { ⌜ (locomotiveInRange l ≡ true) × (place < substanceCount) ⌝ }
-    ensures { λ r. ⌜ (r .mean ≡ meanParts l place modeCount) × (r .greatest ≡ greatestParts l place modeCount) ⌝ }
+// One mode more of each substance; without a share it adds nothing.
+fn with_mode(l: Locomotive, rates: [u64; RATES], m: AllModes, k: usize) -> AllModes
+    requires { ⌜ (locomotiveInRange l ≡ true) × (rates ≡ hourlyOf (l .model)) × (m ≡ allModes l k) × (k < modeCount) ⌝ }
+    ensures { λ r. ⌜ r ≡ allModes l (k + 1) ⌝ }
 {
     let shares = l.shares;
-    let mut m = Modes {
+    let share = shares[k];
+    if share == 0 {
+        return m;
+    }
+    AllModes {
+        co: with_rate(m.co, rates[k], share),
+        no2: with_rate(m.no2, rates[MODES + k], share),
+        soot: with_rate(m.soot, rates[2 * MODES + k], share),
+    }
+}
+
+fn modes_of(l: Locomotive) -> AllModes
+    requires { ⌜ locomotiveInRange l ≡ true ⌝ }
+    ensures { λ r. ⌜ r ≡ allModes l modeCount ⌝ }
+{
+    let rates = table::rates(l.model);
+    let none = Modes {
         mean: 0,
         greatest: 0,
     };
+    let mut m = AllModes {
+        co: none,
+        no2: none,
+        soot: none,
+    };
     let mut k = 0;
     while k < MODES {
-        m = with_mode(m, table::rate(l, place, k), shares[k]);
+        m = with_mode(l, rates, m, k);
         k += 1;
     }
     m
@@ -89,38 +103,38 @@ const RATE_UNITS: u64 = PeakSum::DENOMINATOR / 36 * 100_000;
 
 // Millionths of a kilogram per hour over thousandths of an hour are 1,000,000,000,000ths of a tonne; thousandths of a kilogram per hour are 3,600ths of a gram
 // per second.
-fn emission_of(l: Locomotive, place: usize, hours: u64) -> Emission
-    requires { ⌜ (locomotiveInRange l ≡ true) × (place < substanceCount) × (hours ≡ hourParts l) ⌝ }
-    ensures { λ r. ⌜ r ≡ emitted (locomotiveContribution l place) ⌝ }
+fn emission_of(place: usize, m: Modes, hours: u64) -> Emission
+    requires { ⌜ (place < substanceCount) × (m .mean ≤ 76050000) × (m .greatest ≤ 15210) × (hours ≤ 8854272) ⌝ }
+    ensures { λ r. ⌜ r ≡ emissionParts place m hours ⌝ }
 {
-    let m = modes_of(l, place);
     Emission {
         code: CODES[place],
         annual: AnnualSum::of(m.mean * hours).times(MASS_UNITS),
-        peak: PeakSum::of(m.greatest as u64 * RATE_UNITS),
+        peak: PeakSum::of(m.greatest * RATE_UNITS),
     }
 }
 
-fn emissions_of(l: Locomotive) -> [Emission; EMISSIONS]
+fn emissions_of(l: Locomotive) -> [Emission; SUBSTANCES]
     requires { ⌜ locomotiveInRange l ≡ true ⌝ }
     ensures { λ r. ⌜ r ≡ locomotiveEmissions l ⌝ }
 {
     let hours = hours_of(l);
+    let modes = modes_of(l);
     [
-        emission_of(l, 0, hours),
-        emission_of(l, 1, hours),
-        emission_of(l, 2, hours),
+        emission_of(0, modes.co, hours),
+        emission_of(1, modes.no2, hours),
+        emission_of(2, modes.soot, hours),
     ]
 }
 
 impl LocomotiveAnswer {
     // A refusal at slot 0, "with zero figures".
-    pub fn refusal(number: u8) -> Self
+    pub(crate) fn refusal(number: u8) -> Self
         ensures { λ r. ⌜ r ≡ locomotiveRefusal number ⌝ }
     {
         Self {
             verdict: Verdict { number, slot: 0 },
-            emissions: [Emission::none(); EMISSIONS],
+            emissions: [Emission::none(); SUBSTANCES],
         }
     }
 }

@@ -1,16 +1,17 @@
 // Table 21 of SO 153-34.02.317-2003, and the factors of age and zone.
 ghost use mathlib.Core.Path.{_≡_};
-ghost use Prim.Native.Nat.{_<_, _≤_};
+ghost use Prim.Native.Nat.{_≤_};
 ghost use Rattle.sums.specs.Fraction.{partsOf};
-ghost use Rattle.locomotives.specs.Fields.{modeCount};
-ghost use Rattle.locomotives.specs.Rules.{substanceCount, ageFactor, zoneFactor};
-ghost use Rattle.locomotives.specs.Parts.{rateParts};
-use super::fields::Locomotive;
+ghost use Rattle.locomotives.specs.Rules.{ageFactor, zoneFactor};
+ghost use Rattle.locomotives.specs.Parts.{hourlyOf};
 use super::fields::MODES;
-use super::rule::EMISSIONS;
+use super::rule::SUBSTANCES;
 
-// Thousandths of a kilogram per hour: for each model CO, NO2 and soot, each in the five modes.
-const TABLE_21: [u16; 60] = [
+// How many rates a model has: CO, NO2 and soot, each in the five modes.
+pub(crate) const RATES: usize = SUBSTANCES * MODES;
+
+// Table 21, a model's rates in thousandths of a kilogram per hour.
+const TGM6: [u64; RATES] = [
     840,
     920,
     1_360,
@@ -26,6 +27,9 @@ const TABLE_21: [u16; 60] = [
     180,
     290,
     380,
+];
+
+const TGM4: [u64; RATES] = [
     640,
     750,
     930,
@@ -41,6 +45,9 @@ const TABLE_21: [u16; 60] = [
     170,
     220,
     230,
+];
+
+const TGM3: [u64; RATES] = [
     540,
     580,
     910,
@@ -56,6 +63,9 @@ const TABLE_21: [u16; 60] = [
     130,
     150,
     260,
+];
+
+const TU4: [u64; RATES] = [
     170,
     220,
     280,
@@ -73,16 +83,19 @@ const TABLE_21: [u16; 60] = [
     70,
 ];
 
-// By zone, in tenths.
-const ZONES: [u64; 3] = [12, 10, 8];
-
-// Thousandths of a kilogram per hour, of the substance at a place, in a mode.
-pub(crate) fn rate(l: Locomotive, place: usize, mode: usize) -> u16
-    requires { ⌜ (1 ≤ l .model) × (l .model ≤ 4) × (place < substanceCount) × (mode < modeCount) ⌝ }
-    ensures { λ r. ⌜ (r ≡ rateParts l place mode) × (r ≤ 15210) ⌝ }
+// A model's rates. The compiler keeps what a `match` chooses from in memory; a table indexed by the model would be built anew for each locomotive. No other model is
+// in range.
+pub(crate) fn rates(model: u8) -> [u64; RATES]
+    requires { ⌜ (1 ≤ model) × (model ≤ 4) ⌝ }
+    ensures { λ r. ⌜ r ≡ hourlyOf model ⌝ }
 {
-    let at = MODES * (EMISSIONS * (l.model - 1) as usize + place) + mode;
-    TABLE_21[at]
+    match model {
+        1 => TGM6,
+        2 => TGM4,
+        3 => TGM3,
+        4 => TU4,
+        _ => [0; RATES],
+    }
 }
 
 // Tenths.
@@ -97,6 +110,9 @@ pub(crate) fn zone_factor(zone: u8) -> u64
     requires { ⌜ (1 ≤ zone) × (zone ≤ 3) ⌝ }
     ensures { λ r. ⌜ (r ≡ partsOf 10 (zoneFactor zone)) × (r ≤ 12) ⌝ }
 {
-    let at = (zone - 1) as usize;
-    ZONES[at]
+    match zone {
+        1 => 12,
+        2 => 10,
+        _ => 8,
+    }
 }

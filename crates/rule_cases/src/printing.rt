@@ -78,7 +78,7 @@ pub(crate) fn emission(e: Emission) {
     sums(e);
 }
 
-pub(crate) fn three_emissions(three: [Emission; locomotives::EMISSIONS]) {
+pub(crate) fn three_emissions(three: [Emission; locomotives::SUBSTANCES]) {
     emission(three[0]);
     emission(three[1]);
     emission(three[2]);

@@ -15,7 +15,7 @@ pub(crate) fn first(e: Emission) -> [Emission; EMISSIONS] {
 }
 
 // Three emissions, likewise.
-pub(crate) fn first_three(three: [Emission; locomotives::EMISSIONS]) -> [Emission; EMISSIONS] {
+pub(crate) fn first_three(three: [Emission; locomotives::SUBSTANCES]) -> [Emission; EMISSIONS] {
     let mut six = zero();
     six[0] = three[0];
     six[1] = three[1];

@@ -15,7 +15,7 @@ use Rattle.vehicles.specs.Rules.{controlOf, runAndIdle, outGrams, inGrams, mont
 use Rattle.store_records.specs.Fields.{bulkInRange, handlingInRange, standingInRange, aspirationInRange}
 use Rattle.stores.specs.Rules.{k6Of, handlingPeak, standingPeak, bulkTonnes, aspirationPeak, aspirationTonnes}
 use Rattle.locomotives.specs.Fields.{sharesInRange, locomotiveInRange, sharesAddUp}
-use Rattle.locomotives.specs.Rules.{ageFactor, modeTonnes, locomotiveTonnes, greatestRate, locomotivePeak}
+use Rattle.locomotives.specs.Rules.{ageFactor, modeTonnes, locomotiveTonnes, greatestHourly, locomotivePeak}
 use Rattle.slots.specs.Bytes.{bytesFrom, slotOf, i16At, zeroFrom, numberOf}
 use Rattle.slots.specs.Layout.{temperaturesOf, headerOf, daysOf, distancesAt, groupOf, groupGood, groupRead, coefficientsOf, coefficientsGood, coefficientsRead, bulkOf, handlingOf, handlingGood, standingOf, standingGood, aspirationOf, aspirationGood, storeKind, byKind, storeOf, storeGood, readBy, readStore, sharesOf, locomotiveOf, locomotiveGood, locomotiveRead}
 use Rattle.slot_file.specs.Sources.{coefficientSlot, groupAt, storeAt, locomotiveAt, temperaturesAt, Chains, inventoryAt}
@@ -29,7 +29,7 @@ use Rattle.slot_file.specs.Demands.{seven, fourteen}
 use Rattle.slot_file.specs.Surveyed.{Right, records, locomotives, refusals, LentOfB, answerOfB, TwoStores, TwoEngines}
 
 pub as-examples : Right records × Right locomotives × Right refusals × LentOfB answerOfB × TwoStores × TwoEngines
-unfolding records locomotives refusals answerOfB flatMap sameList sameStore sameLocomotive if_then_else allTo listTo totalTo nearest upTo temperaturesInRange distancesInRange daysInRange groupInRange coefficientsInRange allZero below place tableMinutes minutesAt periodAt controlOf runAndIdle outGrams inGrams monthGrams annualTonnes peakGrams lowerOf lowestTo pollutantCode zeroWhereDue bulkInRange handlingInRange standingInRange aspirationInRange k6Of handlingPeak standingPeak bulkTonnes aspirationPeak aspirationTonnes sharesInRange locomotiveInRange sumTo sharesAddUp ageFactor modeTonnes locomotiveTonnes greatestRate locomotivePeak bytesFrom slotOf i16At zeroFrom numberOf temperaturesOf headerOf daysOf distancesAt groupOf groupGood groupRead coefficientsOf coefficientsGood coefficientsRead bulkOf handlingOf handlingGood standingOf standingGood aspirationOf aspirationGood storeKind byKind storeOf storeGood readBy readStore sharesOf locomotiveOf locomotiveGood locomotiveRead coefficientSlot groupAt storeAt locomotiveAt temperaturesAt inventoryAt headAsks member linkAsks coefficientHolder coefficientAsks rowsAsks closingAsks coefficientSlots reachedBy groupAsks storeAsks locomotiveAsks reachAsks lastAsks first chain locomotiveWalk storeWalk groupWalk outcome groupContributions storeContributions locomotiveContributions gathered contributions exactSum annualFigure peakFigure summed answered answer text digits padded fixed line lines listing listed refusalLine printed
+unfolding records locomotives refusals answerOfB flatMap sameList sameStore sameLocomotive if_then_else allTo listTo totalTo nearest upTo temperaturesInRange distancesInRange daysInRange groupInRange coefficientsInRange allZero below place tableMinutes minutesAt periodAt controlOf runAndIdle outGrams inGrams monthGrams annualTonnes peakGrams lowerOf lowestTo pollutantCode zeroWhereDue bulkInRange handlingInRange standingInRange aspirationInRange k6Of handlingPeak standingPeak bulkTonnes aspirationPeak aspirationTonnes sharesInRange locomotiveInRange sumTo sharesAddUp ageFactor modeTonnes locomotiveTonnes greatestHourly locomotivePeak bytesFrom slotOf i16At zeroFrom numberOf temperaturesOf headerOf daysOf distancesAt groupOf groupGood groupRead coefficientsOf coefficientsGood coefficientsRead bulkOf handlingOf handlingGood standingOf standingGood aspirationOf aspirationGood storeKind byKind storeOf storeGood readBy readStore sharesOf locomotiveOf locomotiveGood locomotiveRead coefficientSlot groupAt storeAt locomotiveAt temperaturesAt inventoryAt headAsks member linkAsks coefficientHolder coefficientAsks rowsAsks closingAsks coefficientSlots reachedBy groupAsks storeAsks locomotiveAsks reachAsks lastAsks first chain locomotiveWalk storeWalk groupWalk outcome groupContributions storeContributions locomotiveContributions gathered contributions exactSum annualFigure peakFigure summed answered answer text digits padded fixed line lines listing listed refusalLine printed
 as-examples = (
   refl,
   refl,

@@ -2,9 +2,9 @@
 -- Assumes nothing.
 use Prim.Native.Nat.{ℕ, _+_, _-_, _<_, _≤_}
 use native.Mathlib.Omega.{arith}
-use mathlib.Core.Path.{_≡_, refl}
+use mathlib.Core.Path.{refl}
 use lib.Dec.{eqb, lit<, lit≤}
-use Rattle.sums.specs.Fraction.{Frac, _over_, _≈_, partsOf}
+use Rattle.sums.specs.Fraction.{_over_, _≈_, partsOf}
 use Rattle.sums.proofs.Choices.{both}
 use Rattle.sums.proofs.Fractions.{≈-refl, parts}
 use Rattle.sums.proofs.Tables.{Scaled, allScaled, entry, entry-up-to}
@@ -58,7 +58,3 @@ k6-scaled k h = k6-to 200 k (lit≤ tt) h
 -- out of its range too
 pub k6-same : (k : ℕ) → k6Of k ≈ (partsOf 100 (k6Of k) over 100)
 k6-same k = k6-to (130 + k) k (omega arith) (omega arith) .same
-
--- what a lookup promises: the table's parts, and their bound
-pub met : {d b r : ℕ} {x : Frac} → r ≡ partsOf d x → Scaled d b x → (r ≡ partsOf d x) × (r ≤ b)
-met e s = (e, rw e (s .most))

@@ -104,3 +104,7 @@ entry d b (x ∷ l) h (suc i) = entry d b l (right (allOf (scaledTests d b x)) (
 
 pub entry-up-to : (d b : ℕ) (ls : List Line) (above : Frac) → allScaled d b (values ls above) ≡ true → (x : ℕ) → Scaled d b (upTo ls above x)
 entry-up-to d b ls above h x = rw (column ls above x) at (entry d b (values ls above) h (lineOf (bounds ls) x))
+
+-- what a lookup promises: the table's parts, and their bound
+pub met : {d b r : ℕ} {x : Frac} → r ≡ partsOf d x → Scaled d b x → (r ≡ partsOf d x) × (r ≤ b)
+met e s = (e, rw e (s .most))

@@ -4,7 +4,8 @@ use borrow.Author.Tests.{eq-eqb, ne-eqb}
 use Rattle.sums.specs.Fraction.{partsOf}
 use Rattle.sums.proofs.Choices.{yes, no}
 use Rattle.locomotives.specs.Rules.{ageFactor}
-use Rattle.locomotives.proofs.Scales.{age-scaled, met}
+use Rattle.sums.proofs.Tables.{met}
+use Rattle.locomotives.proofs.Scales.{age-scaled}
 use Rattle.locomotives.proofs.table.age_factor.Statement.{statement}
 use Rattle.locomotives.proofs.table.age_factor.Tie as tie
 

@@ -2,9 +2,9 @@
 use native.Mathlib.Omega.{arith}
 use Prim.Native.Nat.{_-_}
 use Rattle.sums.specs.Fraction.{partsOf}
-use Rattle.sums.proofs.Tables.{scaled-at}
+use Rattle.sums.proofs.Tables.{scaled-at, met}
 use Rattle.stores.specs.Rules.{dropTable}
-use Rattle.stores.proofs.TableTests.{drop-scaled, met}
+use Rattle.stores.proofs.TableTests.{drop-scaled}
 use Rattle.stores.proofs.tables.drop_factor.Statement.{statement}
 use Rattle.stores.proofs.tables.drop_factor.Tie as tie
 

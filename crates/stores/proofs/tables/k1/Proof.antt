@@ -2,9 +2,9 @@
 use native.Mathlib.Omega.{arith}
 use Prim.Native.Nat.{_-_}
 use Rattle.sums.specs.Fraction.{partsOf}
-use Rattle.sums.proofs.Tables.{scaled-at}
+use Rattle.sums.proofs.Tables.{scaled-at, met}
 use Rattle.stores.specs.Rules.{k1Table}
-use Rattle.stores.proofs.TableTests.{k1-scaled, met}
+use Rattle.stores.proofs.TableTests.{k1-scaled}
 use Rattle.stores.proofs.tables.k1.Statement.{statement}
 use Rattle.stores.proofs.tables.k1.Tie as tie
 

@@ -2,9 +2,9 @@
 use native.Mathlib.Omega.{arith}
 use Prim.Native.Nat.{_-_}
 use Rattle.sums.specs.Fraction.{partsOf}
-use Rattle.sums.proofs.Tables.{scaled-at}
+use Rattle.sums.proofs.Tables.{scaled-at, met}
 use Rattle.stores.specs.Rules.{k2Table}
-use Rattle.stores.proofs.TableTests.{k2-scaled, met}
+use Rattle.stores.proofs.TableTests.{k2-scaled}
 use Rattle.stores.proofs.tables.k2.Statement.{statement}
 use Rattle.stores.proofs.tables.k2.Tie as tie
 

@@ -2,9 +2,9 @@
 use native.Mathlib.Omega.{arith}
 use Prim.Native.Nat.{_-_}
 use Rattle.sums.specs.Fraction.{partsOf}
-use Rattle.sums.proofs.Tables.{scaled-at}
+use Rattle.sums.proofs.Tables.{scaled-at, met}
 use Rattle.stores.specs.Rules.{k4Table}
-use Rattle.stores.proofs.TableTests.{k4-scaled, met}
+use Rattle.stores.proofs.TableTests.{k4-scaled}
 use Rattle.stores.proofs.tables.k4.Statement.{statement}
 use Rattle.stores.proofs.tables.k4.Tie as tie
 

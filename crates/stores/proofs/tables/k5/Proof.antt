@@ -2,9 +2,9 @@
 use native.Mathlib.Omega.{arith}
 use Rattle.sums.specs.Fraction.{_over_, partsOf}
 use Rattle.sums.specs.Table.{bounds}
-use Rattle.sums.proofs.Tables.{line-below, looked-up}
+use Rattle.sums.proofs.Tables.{line-below, looked-up, met}
 use Rattle.stores.specs.Rules.{k5Table}
-use Rattle.stores.proofs.TableTests.{k5-scaled, met}
+use Rattle.stores.proofs.TableTests.{k5-scaled}
 use Rattle.stores.proofs.tables.k5.Statement.{statement}
 use Rattle.stores.proofs.tables.k5.Tie as tie
 

@@ -7,7 +7,8 @@ use Rattle.sums.specs.Fraction.{Frac, _over_, partsOf}
 use Rattle.sums.proofs.Choices.{yes, no}
 use Rattle.sums.proofs.Fractions.{≈-refl, parts}
 use Rattle.stores.specs.Rules.{k6Of}
-use Rattle.stores.proofs.TableTests.{k6-scaled, met}
+use Rattle.sums.proofs.Tables.{met}
+use Rattle.stores.proofs.TableTests.{k6-scaled}
 use Rattle.stores.proofs.tables.k6.Statement.{statement}
 use Rattle.stores.proofs.tables.k6.Tie as tie
 

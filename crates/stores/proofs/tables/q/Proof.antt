@@ -2,9 +2,9 @@
 use native.Mathlib.Omega.{arith}
 use Prim.Native.Nat.{_-_}
 use Rattle.sums.specs.Fraction.{partsOf}
-use Rattle.sums.proofs.Tables.{scaled-at}
+use Rattle.sums.proofs.Tables.{scaled-at, met}
 use Rattle.stores.specs.Rules.{qTable}
-use Rattle.stores.proofs.TableTests.{q-scaled, met}
+use Rattle.stores.proofs.TableTests.{q-scaled}
 use Rattle.stores.proofs.tables.q.Statement.{statement}
 use Rattle.stores.proofs.tables.q.Tie as tie
 
