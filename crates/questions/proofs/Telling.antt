@@ -29,9 +29,6 @@ told-no n k e z f = rw e (record { all = λ y. absurd (z y); first = λ _. f })
 pub told-yes : {qs : List Question} {v : Verdict} → v ≡ record { number = 0; slot = 0 } → AllYes qs → Told qs v
 told-yes e a = rw e (record { all = λ _. a; first = λ z. absurd (z refl) })
 
-pub not-refused : {v : Verdict} (n k : ℕ) → v ≡ record { number = n; slot = k } → (n ≡ 0 → ⊥) → v .number ≡ 0 → ⊥
-not-refused n k e z y = z (sym (ap (λ (v : Verdict). v .number) e) ∙ y)
-
 -- along an append of lists
 pub told-before : {v : Verdict} (xs ys : List Question) → Told xs v → (v .number ≡ 0 → ⊥) → Told (xs ++ ys) v
 told-before xs ys t z = record { all = λ y. absurd (z y); first = λ _. no-before xs ys (t .first z) }

@@ -22,7 +22,8 @@ returns : tie.Need-returns
 unfolding listTo wordsOf
 returns c =
     let g = c .before .before in
-    let s = g .before .before .before .before .before .before .before .before in
+    let filled = g .before .before .before .before in
+    let s = filled .before .before .before .before in
     let a = s .args .a in
     let e = g .give-rule .ensures in
     let l = sym (listTo-is noEmission substanceCount (a .emissions) (λ (p : ℕ). getD (a .emissions) p noEmission) (three s) (λ p h. refl)) in

@@ -31,7 +31,8 @@ returns c =
 returns-2 : tie.Need-returns-2
 unfolding into
 returns-2 c =
-    let t = c .before .before .before .before .before .before in
+    let lent = c .before .before .before in
+    let t = lent .before .before .before in
     let b = t .before .before .before .before .before in
     let a = b .before .before .args in
     let s = size (a .v) (a .n) (a .es) (omega arith) in

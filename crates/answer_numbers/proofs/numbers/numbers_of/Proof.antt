@@ -13,11 +13,11 @@ use Rattle.answer_numbers.proofs.numbers.numbers_of.Statement.{statemen
 use Rattle.answer_numbers.proofs.numbers.numbers_of.Tie as tie
 
 -- back from where the first five numbers stand to where they are begun, and to the start
-abbrev at-first : tie.After-numbers → tie.After-struct-known
-at-first c = c .before .before .before .before .before .before
-
 abbrev at-start : tie.After-numbers → tie.Start
-at-start c = at-first c .before .before .before
+at-start c =
+    let begun = c .before .before .before in
+    let known = begun .before .before .before in
+    known .before .before .before
 
 lengths : (s : tie.Start) → (length (s .args .a .annual) ≡ codeCount) × (length (s .args .a .peak) ≡ codeCount)
 lengths s = (search needs, search needs)

@@ -16,7 +16,7 @@ abbrev at-groups : tie.Else1 → tie.After-walk-groups
 at-groups c = c .before .before .before .before .before
 
 abbrev at-start : tie.After-walk-groups → tie.Start
-at-start c = c .before .before .before .before .before .before
+at-start c = let lent = c .before .before .before in lent .before .before .before
 
 walk-groups-requires : tie.Need-walk-groups-requires
 walk-groups-requires c κs = c .before .before .before .before .before .pre
