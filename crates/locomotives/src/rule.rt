@@ -97,9 +97,9 @@ fn hours_of(l: Locomotive) -> u64
 }
 
 // Exact units in a 1,000,000,000,000th of a tonne, and in a 3,600th of a gram per second: 20,000,000 and 200,000,000,000.
-const MASS_UNITS: u32 = (AnnualSum::DENOMINATOR / 1_000_000) as u32;
+const YEAR_UNITS: u32 = (AnnualSum::DENOMINATOR / 1_000_000) as u32;
 
-const RATE_UNITS: u64 = PeakSum::DENOMINATOR / 36 * 100_000;
+const PEAK_UNITS: u64 = PeakSum::DENOMINATOR / 36 * 100_000;
 
 // Millionths of a kilogram per hour over thousandths of an hour are 1,000,000,000,000ths of a tonne; thousandths of a kilogram per hour are 3,600ths of a gram
 // per second.
@@ -109,8 +109,8 @@ fn emission_of(place: usize, m: Modes, hours: u64) -> Emission
 {
     Emission {
         code: CODES[place],
-        annual: AnnualSum::of(m.mean * hours).times(MASS_UNITS),
-        peak: PeakSum::of(m.greatest * RATE_UNITS),
+        annual: AnnualSum::of(m.mean * hours).times(YEAR_UNITS),
+        peak: PeakSum::of(m.greatest * PEAK_UNITS),
     }
 }
 

@@ -7,7 +7,7 @@ use mathlib.Core.List.{List, [], _∷_, _++_}
 use lib.Dec.{ltb, eqb}
 use lib.ListN.{getD}
 use native.Mathlib.Decide.{decLt}
-use borrow.Author.Tests.{lt-ltb, ltb-true, eq-eqb, ne-eqb}
+use borrow.Author.Tests.{ltb-true, eq-eqb, ne-eqb}
 use Rattle.sums.specs.Choice.{if_then_else}
 use Rattle.sums.specs.declared.answer.Verdict.{Verdict}
 use Rattle.sums.proofs.Choices.{left, right}
@@ -74,14 +74,6 @@ good-told true true e k = rw e refl
 good-told true false e k = rw e refl
 good-told false good e k = cc
 
--- a link below the slots is below the most of them
-below-most : (k n : ℕ) → n ≤ mostSlots → (ltb k n && ltb k mostSlots) ≡ ltb k n
-below-most k n l = go (ltb k n) refl
-  where
-    go : (t : Bool) → ltb k n ≡ t → (t && ltb k mostSlots) ≡ t
-    go true e = lt-ltb k mostSlots (omega (arith, ltb-true k n e))
-    go false e = refl
-
 -- what the questions qs are told, all of them are: those before qs were answered yes
 pub record Rest (qs whole : List Question) : Type 0 where
   pub same : toldBy whole ≡ toldBy qs
@@ -142,26 +134,26 @@ unfolding reachAsks
 reach-numbered zero i l = refl
 reach-numbered (suc n) i l = reach-numbered n (i + 1) l
 
--- of a link whose marks are those of the slots before it, and whose read is numbered for its kind and its fields
-pub link-told : (s before : List ℕ) (marks : List Bool) (holder k number : ℕ) {v : Verdict} (kind good : Bool) → slotCount s ≤ mostSlots → marks ≡ marksOf before → (k ≡ 0 → ⊥)
-    → number ≡ numberOf kind good → v ≡ toldBy (linkAsked s marks holder k number) → Told (linkAsks s holder before k kind good) v
+-- of a link whose slot is known by the marks of the slots before it, and whose read is numbered for its kind and its fields
+pub link-told : (s before : List ℕ) (marks : List Bool) (known : Bool) (holder k number : ℕ) {v : Verdict} (kind good : Bool) → slotCount s ≤ mostSlots
+    → known ≡ (ltb k (slotCount s) && getD marks k false) → marks ≡ marksOf before → (k ≡ 0 → ⊥) → number ≡ numberOf kind good → v ≡ toldBy (linkAsked s known holder k number)
+    → Told (linkAsks s holder before k kind good) v
 unfolding linkAsks
-link-told s before marks holder k number kind good l m z e t =
-    let b = below-most k (slotCount s) l in
-    same-told (linkAsked s marks holder k number) (linkAsks s holder before k kind good) (
-      b,
+link-told s before marks known holder k number kind good l w m z e t =
+    same-told (linkAsked s known holder k number) (linkAsks s holder before k kind good) (
+      refl,
       refl,
       refl,
       λ y. (
-        ap not (sym (marked before k m z (omega (arith, ltb-true k (slotCount s) y)) refl)),
+        ap not (w ∙ ap (λ (b : Bool). b && getD marks k false) y ∙ sym (marked before k m z (omega (arith, ltb-true k (slotCount s) y)) refl)),
         refl,
         refl,
         λ _. (kind-told kind good e, refl, refl, λ r. (good-told kind good e r, refl, refl, λ _. tt)),
       ),
-    ) (told-by (linkAsked s marks holder k number) refl t)
+    ) (told-by (linkAsked s known holder k number) refl t)
 
-pub link-below : (s : List ℕ) (marks : List Bool) (holder k number : ℕ) {v : Verdict} → v ≡ toldBy (linkAsked s marks holder k number) → v .number ≡ 0 → k < mostSlots
-link-below s marks holder k number t y = ltb-true k mostSlots (right (ltb k (slotCount s)) (ltb k mostSlots) (told-by (linkAsked s marks holder k number) refl t .all y .0))
+pub link-below : (s : List ℕ) (known : Bool) (holder k number : ℕ) {v : Verdict} → v ≡ toldBy (linkAsked s known holder k number) → v .number ≡ 0 → k < slotCount s
+link-below s known holder k number t y = ltb-true k (slotCount s) (told-by (linkAsked s known holder k number) refl t .all y .0)
 
 -- of a link to the coefficient slot at place n of a group
 pub row-told : (s : List ℕ) (g n holder k : ℕ) (row : CoefficientsRead) {v : Verdict} → holder ≡ coefficientHolder s g n → k ≡ coefficientSlot s g n

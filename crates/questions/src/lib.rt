@@ -47,22 +47,15 @@ pub fn ask_head(file: &[u8], h: Header) -> Verdict
     accept()
 }
 
-// Questions 6 to 9, of a link to a group, store record or locomotive: `number` is what the slot's read answers of 8 and 9.
-pub fn ask_link(
-    file: &[u8],
-    sources: &[bool; MOST_SLOTS],
-    holder: u16,
-    link: u16,
-    number: u8,
-) -> Verdict
-    ensures { λ r. ⌜ r ≡ toldBy (linkAsked (now (file .entry)) (now (sources .entry)) holder link number) ⌝ }
+// Questions 6 to 9, of a link to a group, store record or locomotive: whether its slot is a source so far is `known`, and `number` is what the slot's read answers of
+// 8 and 9.
+pub fn ask_link(file: &[u8], known: bool, holder: u16, link: u16, number: u8) -> Verdict
+    ensures { λ r. ⌜ r ≡ toldBy (linkAsked (now (file .entry)) known holder link number) ⌝ }
 {
-    let k = link as usize;
-    let below = (k < file.len() / SLOT_SIZE) & (k < MOST_SLOTS);
-    if !below {
+    if file.len() / SLOT_SIZE <= link as usize {
         return refuse(6, holder);
     }
-    if sources[k] {
+    if known {
         return refuse(7, link);
     }
     if number == 8 {

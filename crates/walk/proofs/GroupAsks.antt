@@ -1,9 +1,10 @@
 -- All that is asked of a link to a group: of the link, of the coefficient links, and question 11. Assumes nothing.
 use Prim.Native.Nat.{ℕ, _≤_}
 use mathlib.Core.Path.{_≡_, sym, ap, _∙_, subst}
-use mathlib.Core.Bool.{Bool}
+use mathlib.Core.Bool.{Bool, false, _&&_}
 use mathlib.Core.List.{List, [], _∷_, _++_, append-assoc}
-use lib.Dec.{lit<}
+use lib.Dec.{ltb, lit<}
+use lib.ListN.{getD}
 use Rattle.sums.specs.declared.answer.Verdict.{Verdict}
 use Rattle.vehicle_fields.specs.Fields.{pollutantCount}
 use Rattle.vehicle_fields.specs.SootAndLead.{zeroWhereDue}
@@ -33,12 +34,12 @@ module _ (s : List ℕ) (c : Chains) (g : ℕ) where
       ∙ sym (append-assoc (groupLinkAsks s c g) (rowsAsks s g pollutantCount) (afterSixth s g ∷ eleven))
 
   module _ {v : Verdict} where
-    pub group-link-told : (sources : List Bool) (holder : ℕ) (read : GroupRead) → v ≡ toldBy (linkAsked s sources holder g (read .number)) → slotCount s ≤ mostSlots → read ≡ groupRead (slotOf s g)
-        → (g ≡ 0 → ⊥) → sources ≡ marksOf (sourcesOf c) → holder ≡ lastOf (c .groups) → Told (groupLinkAsks s c g) v
+    pub group-link-told : (sources : List Bool) (known : Bool) (holder : ℕ) (read : GroupRead) → v ≡ toldBy (linkAsked s known holder g (read .number)) → slotCount s ≤ mostSlots → read ≡ groupRead (slotOf s g)
+        → (g ≡ 0 → ⊥) → known ≡ (ltb g (slotCount s) && getD sources g false) → sources ≡ marksOf (sourcesOf c) → holder ≡ lastOf (c .groups) → Told (groupLinkAsks s c g) v
     unfolding groupRead
-    group-link-told sources holder read t l e z m h =
+    group-link-told sources known holder read t l e z w m h =
         let x = slotOf s g in
-        rw (← h) (link-told s (sourcesOf c) sources holder g (read .number) (groupKind x) (groupGood x (groupOf x)) l m z (ap (λ (r : GroupRead). r .number) e) t)
+        rw (← h) (link-told s (sourcesOf c) sources known holder g (read .number) (groupKind x) (groupGood x (groupOf x)) l w m z (ap (λ (r : GroupRead). r .number) e) t)
 
     pub link-refused : Told (groupLinkAsks s c g) v → (v .number ≡ 0 → ⊥) → Told (groupAsks s c g) v
     link-refused t z = subst (λ (l : List Question). Told l v) asks-are (told-before (groupLinkAsks s c g) (rows ++ eleven) t z)

@@ -1,27 +1,18 @@
 // A whole file: its check and its answer, by one walk over its chains.
 ghost use mathlib.Core.Path.{_≡_};
-ghost use mathlib.Core.List.{[]};
 ghost use Rattle.slot_file.specs.Walk.{outcome, told};
 ghost use Rattle.slot_file.specs.Figures as figures;
-ghost use Rattle.slot_file.specs.Parts.{marksOf};
 ghost use Rattle.totals.specs.Totals.{noNumbers};
 ghost use Rattle.walk.specs.Walked.{FileWalked};
-use super::chains;
+use super::group_chain::walk_groups;
+use super::locomotive_chain::walk_locomotives;
+use super::marks;
 use super::reached;
+use super::store_chain::walk_stores;
 use super::walked;
 use super::walked::Walked;
 use slot_file::Answer;
-use slot_file::MOST_SLOTS;
 use sums::Verdict;
-
-// No slot is marked but slot 0.
-fn no_marks() -> [bool; MOST_SLOTS]
-    ensures { λ r. ⌜ r ≡ marksOf [] ⌝ }
-{
-    let mut marks = [false; MOST_SLOTS];
-    marks[0] = true;
-    marks
-}
 
 // Questions 1 to 12 and 14 in order; where nothing is refused, the counts, and in `totals` the sums where they are wanted.
 fn walk_file(file: &[u8], totals: &mut [u64], summing: bool) -> Walked
@@ -36,9 +27,19 @@ fn walk_file(file: &[u8], totals: &mut [u64], summing: bool) -> Walked
             counts: walked::no_counts(),
         };
     }
-    let mut sources = no_marks();
-    let mut reached = no_marks();
-    let all = chains::walk_chains(file, &mut sources, &mut reached, totals, h, summing);
+    let mut sources = marks::no_marks();
+    let mut reached = marks::no_marks();
+    let groups = walk_groups(file, &mut sources, &mut reached, totals, h, summing);
+    let verdict = groups.verdict;
+    if verdict.number != 0 {
+        return groups;
+    }
+    let stores = walk_stores(file, &mut sources, &mut reached, totals, h, summing, groups);
+    let verdict = stores.verdict;
+    if verdict.number != 0 {
+        return stores;
+    }
+    let all = walk_locomotives(file, &mut sources, &mut reached, totals, h, summing, stores);
     let verdict = all.verdict;
     if verdict.number != 0 {
         return all;

@@ -6,6 +6,7 @@ ghost use Rattle.vehicles.specs.Rules.{groupAnswer};
 ghost use Rattle.slot_file.specs.Questions.{mostBytes};
 ghost use Rattle.walk.specs.Steps.{GroupStepped};
 ghost use Rattle.walk.specs.Walked.{plusGroup, GroupsBegin, GroupsWalked};
+use super::marks;
 use super::rows;
 use super::walked;
 use super::walked::Walked;
@@ -38,7 +39,8 @@ fn step_group(
     let k = link as usize;
     let read = slots::read_group(file, k);
     let group = read.group;
-    let verdict = questions::ask_link(file, sources, holder, link, read.number);
+    let known = marks::marked(file, sources, k);
+    let verdict = questions::ask_link(file, known, holder, link, read.number);
     if verdict.number != 0 {
         return GroupStep {
             verdict,

@@ -1,8 +1,8 @@
 // The walk over a slot file: its check, and its answer.
-mod chains;
 pub mod file;
 mod group_chain;
 mod locomotive_chain;
+mod marks;
 mod reached;
 mod rows;
 mod store_chain;

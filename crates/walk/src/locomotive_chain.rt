@@ -6,6 +6,7 @@ ghost use Rattle.locomotives.specs.Rules.{locomotiveAnswer};
 ghost use Rattle.slot_file.specs.Questions.{mostBytes};
 ghost use Rattle.walk.specs.Steps.{LocomotiveStepped};
 ghost use Rattle.walk.specs.Walked.{plusLocomotive, LocomotivesBegin, LocomotivesWalked};
+use super::marks;
 use super::walked::Walked;
 use locomotives::Locomotive;
 use slot_file::MOST_SLOTS;
@@ -33,7 +34,8 @@ fn step_locomotive(
     let k = link as usize;
     let read = slots::read_locomotive(file, k);
     let locomotive = read.locomotive;
-    let linked = questions::ask_link(file, sources, holder, link, read.number);
+    let known = marks::marked(file, sources, k);
+    let linked = questions::ask_link(file, known, holder, link, read.number);
     let verdict = questions::ask(linked, locomotives::shares_add_up(locomotive), 14, link);
     if verdict.number == 0 {
         sources[k] = true;

@@ -6,6 +6,7 @@ ghost use Rattle.slots.specs.Layout.{readNumber};
 ghost use Rattle.slot_file.specs.Questions.{mostBytes};
 ghost use Rattle.walk.specs.Steps.{StoreStepped};
 ghost use Rattle.walk.specs.Walked.{recordEmission, storeEmission, plusStore, StoresBegin, StoresWalked};
+use super::marks;
 use super::walked::Walked;
 use slot_file::MOST_SLOTS;
 use slots::Header;
@@ -44,7 +45,8 @@ fn step_store(
 {
     let k = link as usize;
     let read = slots::read_store(file, k);
-    let verdict = questions::ask_link(file, sources, holder, link, number_of(read));
+    let known = marks::marked(file, sources, k);
+    let verdict = questions::ask_link(file, known, holder, link, number_of(read));
     if verdict.number != 0 {
         return StoreStep {
             verdict,

@@ -1,7 +1,8 @@
 -- Each part is told of its questions, and goes on where the part before it ended.
 use Prim.Native.Nat.{_-_}
 use native.Mathlib.Omega.{arith}
-use mathlib.Core.Path.{refl, subst}
+use mathlib.Core.Path.{_≡_, refl, _∙_, subst}
+use lib.ListN.{length}
 use Rattle.slots.specs.declared.header.Header.{Header}
 use Rattle.slot_file.specs.Questions.{slotCount, headAsksOf, headAsks, reachedOf, reachAsks, lastAsks}
 use Rattle.slot_file.specs.Meaning.{AllYes, FirstNo, at-head, at-last}
@@ -10,11 +11,24 @@ use Rattle.questions.proofs.Telling.{told-by, reach-numbered}
 use Rattle.walk.proofs.file.walk_file.Statement.{statement}
 use Rattle.walk.proofs.file.walk_file.Tie as tie
 
--- back from where the chains have ended to their walk, to where the head has passed, to the header, to the start
-abbrev at-chains : tie.Else2 → tie.After-walk-chains
-at-chains c = c .before .before .before .before .before
+-- back from where the locomotive chain has ended to its walk, to where the store chain has ended, to its walk, to where the group chain has ended, to its walk, to
+-- where the head has passed, to the header, to the start
+abbrev at-locomotives : tie.Else4 → tie.After-walk-locomotives
+at-locomotives c = c .before .before .before .before .before
 
-abbrev at-head-end : tie.After-walk-chains-arg → tie.Else1
+abbrev at-stores-end : tie.After-walk-locomotives → tie.Else3
+at-stores-end c = c .before .before .before .before
+
+abbrev at-stores : tie.Else3 → tie.After-walk-stores
+at-stores c = c .before .before .before .before .before
+
+abbrev at-groups-end : tie.After-walk-stores → tie.Else2
+at-groups-end c = c .before .before .before .before
+
+abbrev at-groups : tie.Else2 → tie.After-walk-groups
+at-groups c = c .before .before .before .before .before
+
+abbrev at-head-end : tie.After-walk-groups-arg → tie.Else1
 at-head-end c = c .before .before .before .before .before
 
 abbrev at-header : tie.Else1 → tie.After-read-header
@@ -41,8 +55,8 @@ returns c =
       passes = λ y. absurd (c .before .if1 .taken y);
     }
 
-walk-chains-requires : tie.Need-walk-chains-requires
-walk-chains-requires c κs =
+walk-groups-requires : tie.Need-walk-groups-requires
+walk-groups-requires c κs =
     let h = at-head-end c in
     record {
       head = headed h;
@@ -53,19 +67,55 @@ walk-chains-requires c κs =
     }
 
 returns-2 : tie.Need-returns-2
-returns-2 c = record { refuses = c .before .before .before .before .before .walk-chains .ensures .refuses; passes = λ y. absurd (c .if2 .taken y) }
+returns-2 c = record { refuses = c .before .before .before .before .before .walk-groups .ensures .refuses; passes = λ y. absurd (c .if2 .taken y) }
 
-ask-reached-requires : tie.Need-ask-reached-requires
-ask-reached-requires c κs = sized _ (headed (at-head-end (at-chains (c .before .before) .before)))
+walk-stores-requires : tie.Need-walk-stores-requires
+walk-stores-requires c κs =
+    let e = c .before .before .before in
+    let g = at-groups e in
+    let h = at-head-end (g .before) in
+    record { head = headed h; header = at-header h .read-header .ensures; groups = g .walk-groups .ensures .ended (e .if2 .left) }
 
 returns-3 : tie.Need-returns-3
-unfolding lastAsks
-returns-3 c =
+returns-3 c = record { refuses = c .before .before .before .before .before .walk-stores .ensures .refuses; passes = λ y. absurd (c .if3 .taken y) }
+
+-- and so they are where the store chain has ended
+abbrev passed-head : tie.Else3 → tie.Else1
+passed-head c = at-head-end (at-groups (at-groups-end (at-stores c)) .before)
+
+walk-locomotives-requires : tie.Need-walk-locomotives-requires
+walk-locomotives-requires c κs =
     let e = c .before .before .before in
-    let l = at-chains e in
-    let h = headed (at-head-end (l .before)) in
-    let p = l .walk-chains .ensures .ended (e .if2 .left) .passed in
-    let s = at-start (at-header (at-head-end (l .before))) .args .file .now in
+    let h = passed-head e in
+    record { head = headed h; header = at-header h .read-header .ensures; stores = at-stores e .walk-stores .ensures .ended (e .if3 .left) }
+
+-- no walk changes the room of the sums
+same-room : (l : tie.After-walk-locomotives) → length (l .walk-locomotives .last .1 .1 .1 .0) ≡ length (at-start (at-header (passed-head (at-stores-end l))) .args .totals .now)
+same-room l =
+    let s = at-stores (at-stores-end l) in
+    let g = at-groups (at-groups-end s) in
+    l .walk-locomotives .kept .1 .1 .1 .0 ∙ s .walk-stores .kept .1 .1 .1 .0 ∙ g .walk-groups .kept .1 .1 .1 .0
+
+same-length-3 : tie.Need-same-length-3
+same-length-3 c = same-room (c .before .before .before .before .before)
+
+returns-4 : tie.Need-returns-4
+returns-4 c = record { refuses = c .before .before .before .before .before .walk-locomotives .ensures .refuses; passes = λ y. absurd (c .if4 .taken y) }
+
+ask-reached-requires : tie.Need-ask-reached-requires
+ask-reached-requires c κs = sized _ (headed (passed-head (at-stores-end (at-locomotives (c .before .before)))))
+
+same-length-4 : tie.Need-same-length-4
+same-length-4 c = same-room (at-locomotives (c .before .before .before))
+
+returns-5 : tie.Need-returns-5
+unfolding lastAsks
+returns-5 c =
+    let e = c .before .before .before in
+    let l = at-locomotives e in
+    let h = headed (passed-head (at-stores-end l)) in
+    let p = l .walk-locomotives .ensures .ended (e .if4 .left) .passed in
+    let s = at-start (at-header (passed-head (at-stores-end l))) .args .file .now in
     let ls = reachedOf s (p .c) in
     let t = told-by (reachAsks (slotCount s - 1) 1 ls) (reach-numbered (slotCount s - 1) 1 ls) (c .ask-reached .ensures ls (p .holds .reached-are)) in
     record {
@@ -82,5 +132,5 @@ returns-3 c =
 pub walk-file-spec : {M : Type 1} → statement M
 walk-file-spec =
     tie.close
-    (tie.spec (omega arith) (omega arith) (omega arith) returns (omega arith) (omega arith) walk-chains-requires (omega arith) returns-2
-    ask-reached-requires (omega arith) returns-3)
+    (tie.spec (omega arith) (omega arith) (omega arith) returns (omega arith) (omega arith) walk-groups-requires (omega arith) returns-2
+    walk-stores-requires (omega arith) returns-3 walk-locomotives-requires same-length-3 returns-4 ask-reached-requires same-length-4 returns-5)

@@ -17,7 +17,7 @@ abbrev at-link : tie.After-ask → tie.After-ask-link
 at-link c = c .before .before
 
 abbrev at-slot : tie.After-ask-link → tie.After-read-locomotive
-at-slot c = c .before .before .before
+at-slot c = c .before .before .before .before
 
 abbrev at-start : tie.After-read-locomotive → tie.Start
 at-start c = c .before .before
@@ -28,8 +28,8 @@ told : (c : tie.After-ask) (d : Chains) → at-start (at-slot (at-link c)) .args
 told c d =
     let l = at-link c in
     let a = at-start (at-slot l) in
-    locomotive-told (a .args .file .now) d (a .args .sources .now) (a .args .holder) (a .args .link) (at-slot l .read-locomotive .result) (l .ask-link .result) (c .before .shares-add-up .result)
-    (l .ask-link .ensures) (omega arith) (at-slot l .read-locomotive .ensures) (a .pre .1) (c .before .shares-add-up .ensures) (c .ask .ensures)
+    locomotive-told (a .args .file .now) d (a .args .sources .now) (l .before .marked .result) (a .args .holder) (a .args .link) (at-slot l .read-locomotive .result) (l .ask-link .result) (c .before .shares-add-up .result)
+    (l .ask-link .ensures) (omega arith) (at-slot l .read-locomotive .ensures) (a .pre .1) (l .before .marked .ensures) (c .before .shares-add-up .ensures) (c .ask .ensures)
 
 -- the slot is below the most where nothing is refused
 below : tie.Need-element-write-sources
@@ -37,7 +37,11 @@ below c =
     let e = c .before .before in
     let l = at-link e in
     let a = at-start (at-slot l) .args in
-    link-below (a .file .now) (a .sources .now) (a .holder) (a .link) (at-slot l .read-locomotive .result .number) (l .ask-link .ensures) (asked-zero _ _ (e .ask .ensures) (c .if1 .taken))
+    omega (
+      arith,
+      at-start (at-slot l) .pre .0,
+      link-below (a .file .now) (l .before .marked .result) (a .holder) (a .link) (at-slot l .read-locomotive .result .number) (l .ask-link .ensures) (asked-zero _ _ (e .ask .ensures) (c .if1 .taken)),
+    )
 
 returns : tie.Need-returns
 unfolding locomotiveAt locomotiveRead
@@ -61,4 +65,4 @@ returns-2 c =
     }
 
 pub step-locomotive-spec : {M : Type 1} → statement M
-step-locomotive-spec = tie.close (tie.spec (omega arith) (omega arith) (omega arith) (omega arith) below below returns returns-2)
+step-locomotive-spec = tie.close (tie.spec (omega arith) (omega arith) (omega arith) (omega arith) (omega arith) below below returns returns-2)
