@@ -1,5 +1,5 @@
 -- What a list of questions is told, by an answer at hand and along an append of lists. Assumes nothing.
-use Prim.Native.Nat.{ℕ, zero, suc, _+_, _<_, _≤_}
+use Prim.Native.Nat.{ℕ, _+_, _<_, _≤_}
 use native.Mathlib.Omega.{arith}
 use mathlib.Core.Path.{_≡_, refl, sym, ap, _∙_}
 use mathlib.Core.Bool.{Bool, true, false, _&&_, not}
@@ -15,11 +15,11 @@ use Rattle.slots.specs.Bytes.{slotOf, numberOf}
 use Rattle.slots.specs.Layout.{coefficientsRead}
 use Rattle.slots.specs.declared.coefficients.CoefficientsRead.{CoefficientsRead}
 use Rattle.slot_file.specs.Sources.{coefficientSlot}
-use Rattle.slot_file.specs.Questions.{mostSlots, Question, question, slotCount, member, linkAsks, coefficientHolder, coefficientAsks, reachAsks}
+use Rattle.slot_file.specs.Questions.{mostSlots, Question, question, slotCount, member, linkAsks, coefficientHolder, coefficientAsks}
 use Rattle.slot_file.specs.Meaning.{AllYes, FirstNo, here, later}
 use Rattle.slot_file.proofs.Asking.{all-append, no-before, no-after}
 use Rattle.slot_file.proofs.Marks.{marks-member}
-use Rattle.slot_file.specs.Alike.{all}
+use Rattle.slot_file.proofs.Numbers.{numbered}
 use Rattle.slot_file.specs.Parts.{marksOf}
 use Rattle.questions.specs.Told.{toldBy, asked, Told, linkAsked, rowAsked}
 
@@ -94,18 +94,15 @@ pub told-all : {whole : List Question} {v : Verdict} → v ≡ record { number =
 unfolding toldBy
 told-all e r = e ∙ sym (r .same)
 
--- each question has a number of its own, and so 0 tells that each is answered yes
-abbrev pub allNumbered : List Question → Bool
-allNumbered qs = all (λ (q : Question). ltb 0 (q .number)) qs
-
-pub told-by : (qs : List Question) {v : Verdict} → allNumbered qs ≡ true → v ≡ toldBy qs → Told qs v
+-- each question has a number above 0, and so 0 tells that each is answered yes
+pub told-by : (qs : List Question) {v : Verdict} → numbered (ltb 0) qs ≡ true → v ≡ toldBy qs → Told qs v
 unfolding toldBy if_then_else
 told-by [] n e = told-yes e tt
-told-by (q ∷ qs) {v} n e = go (λ d. told-by qs (right (ltb 0 (q .number)) (allNumbered qs) n) d) (q .yes) refl e
+told-by (q ∷ qs) {v} n e = go (λ d. told-by qs (right (ltb 0 (q .number)) (numbered (ltb 0) qs) n) d) (q .yes) refl e
   where
     go : (v ≡ toldBy qs → Told qs v) → (b : Bool) → q .yes ≡ b → v ≡ if_then_else b (toldBy qs) (record { number = q .number; slot = q .slot }) → Told (q ∷ qs) v
     go rest true y d = told-after (q ∷ []) qs (y, tt) (rest d)
-    go rest false y d = told-no (q .number) (q .slot) d (λ z. omega (arith, ltb-true 0 (q .number) (left (ltb 0 (q .number)) (allNumbered qs) n), z)) (here q qs y)
+    go rest false y d = told-no (q .number) (q .slot) d (λ z. omega (arith, ltb-true 0 (q .number) (left (ltb 0 (q .number)) (numbered (ltb 0) qs) n), z)) (here q qs y)
 
 -- two lists of the same questions, as long as they are answered yes: what the one is told, the other is
 abbrev pub SameAsks : List Question → List Question → Type 0
@@ -128,11 +125,6 @@ same-no qs (p ∷ ps) s (later q rest e f) = let y = sym (s .0) ∙ e in later p
 
 pub same-told : (qs ps : List Question) {v : Verdict} → SameAsks qs ps → Told qs v → Told ps v
 same-told qs ps s t = record { all = λ y. same-all qs ps s (t .all y); first = λ z. same-no qs ps s (t .first z) }
-
-pub reach-numbered : (n i : ℕ) (l : List ℕ) → allNumbered (reachAsks n i l) ≡ true
-unfolding reachAsks
-reach-numbered zero i l = refl
-reach-numbered (suc n) i l = reach-numbered n (i + 1) l
 
 -- of a link whose slot is known by the marks of the slots before it, and whose read is numbered for its kind and its fields
 pub link-told : (s before : List ℕ) (marks : List Bool) (known : Bool) (holder k number : ℕ) {v : Verdict} (kind good : Bool) → slotCount s ≤ mostSlots

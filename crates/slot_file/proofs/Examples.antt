@@ -1,5 +1,5 @@
--- 01's starred rows of store records, locomotives by hand, a file for each refusal that needs no whole yard, B's answer in a lent buffer, and two alike files of store
--- records and of locomotives: computed, from the definitions as a whole; and questions 7 and 14 in other words. The whole table is computed in the crate `surveyed`. Assumes nothing.
+-- Two rows of the table of examples and B's answer in a lent buffer, computed from the definitions as a whole, so that a wrong definition is refused where it stands;
+-- the whole table is computed in the crate `surveyed`. And questions 7 and 14 in other words. Assumes nothing.
 use Prim.Native.Nat.{ℕ}
 use mathlib.Core.Path.{_≡_, refl}
 use mathlib.Core.List.{List, flatMap}
@@ -26,18 +26,11 @@ use Rattle.slot_file.specs.Figures.{groupContributions, storeContributio
 use Rattle.slot_file.specs.Listing.{listed, text, digits, padded, fixed, line, lines, listing, refusalLine, printed}
 use Rattle.slot_file.specs.Alike.{sameList, sameStore, sameLocomotive}
 use Rattle.slot_file.specs.Demands.{seven, fourteen}
-use Rattle.slot_file.specs.Surveyed.{Right, records, locomotives, refusals, LentOfB, answerOfB, TwoStores, TwoEngines}
+use Rattle.slot_file.specs.Surveyed.{Right, atOnce, LentOfB, answerOfB}
 
-pub as-examples : Right records × Right locomotives × Right refusals × LentOfB answerOfB × TwoStores × TwoEngines
-unfolding records locomotives refusals answerOfB flatMap sameList sameStore sameLocomotive if_then_else allTo listTo totalTo nearest upTo temperaturesInRange distancesInRange daysInRange groupInRange coefficientsInRange allZero below place tableMinutes minutesAt periodAt controlOf runAndIdle outGrams inGrams monthGrams annualTonnes peakGrams lowerOf lowestTo pollutantCode zeroWhereDue bulkInRange handlingInRange standingInRange aspirationInRange k6Of handlingPeak standingPeak bulkTonnes aspirationPeak aspirationTonnes sharesInRange locomotiveInRange sumTo sharesAddUp ageFactor modeTonnes locomotiveTonnes greatestHourly locomotivePeak bytesFrom slotOf i16At zeroFrom numberOf temperaturesOf headerOf daysOf distancesAt groupOf groupGood groupRead coefficientsOf coefficientsGood coefficientsRead bulkOf handlingOf handlingGood standingOf standingGood aspirationOf aspirationGood storeKind byKind storeOf storeGood readBy readStore sharesOf locomotiveOf locomotiveGood locomotiveRead coefficientSlot groupAt storeAt locomotiveAt temperaturesAt inventoryAt headAsks member linkAsks coefficientHolder coefficientAsks rowsAsks closingAsks coefficientSlots reachedBy groupAsks storeAsks locomotiveAsks reachAsks lastAsks first chain locomotiveWalk storeWalk groupWalk outcome groupContributions storeContributions locomotiveContributions gathered contributions exactSum annualFigure peakFigure summed answered answer text digits padded fixed line lines listing listed refusalLine printed
-as-examples = (
-  refl,
-  refl,
-  refl,
-  record { short = refl; just = refl; longer = refl },
-  record { ours = refl; theirs = refl; alike = record { temperatures = refl; groups = refl; stores = refl; locomotives = refl } },
-  record { ours = refl; theirs = refl; alike = record { temperatures = refl; groups = refl; stores = refl; locomotives = refl } },
-)
+pub as-examples : Right atOnce × LentOfB answerOfB
+unfolding atOnce answerOfB flatMap if_then_else allTo listTo totalTo nearest upTo temperaturesInRange distancesInRange daysInRange groupInRange coefficientsInRange aspirationInRange aspirationPeak aspirationTonnes bytesFrom slotOf i16At zeroFrom numberOf temperaturesOf headerOf daysOf distancesAt groupOf groupGood groupRead coefficientsOf coefficientsGood coefficientsRead aspirationOf aspirationGood storeKind byKind storeOf storeGood coefficientSlot storeAt temperaturesAt inventoryAt headAsks member linkAsks coefficientHolder coefficientAsks rowsAsks closingAsks coefficientSlots reachedBy groupAsks storeAsks reachAsks lastAsks first chain locomotiveWalk storeWalk groupWalk outcome groupContributions storeContributions locomotiveContributions gathered contributions exactSum annualFigure peakFigure summed answered answer text digits padded fixed line lines listing listed refusalLine printed
+as-examples = (refl, record { short = refl; just = refl; longer = refl })
 
 -- questions 7 and 14 in other words: 7 of a link of each chain, behind 6, and 14 of a link to a locomotive, behind 9
 pub seven-asks : (s : List ℕ) (c : Chains) (k : ℕ)

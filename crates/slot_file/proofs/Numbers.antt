@@ -40,7 +40,7 @@ abbrev onTheWay : ℕ → Bool
 onTheWay n = ofFile n && not (eqb n 12)
 
 -- p holds of each question's number
-abbrev numbered : (ℕ → Bool) → List Question → Bool
+abbrev pub numbered : (ℕ → Bool) → List Question → Bool
 numbered p qs = all (λ (q : Question). p (q .number)) qs
 
 numbered-append : (l m : List Question) → numbered onTheWay l ≡ true → numbered onTheWay m ≡ true → numbered onTheWay (l ++ m) ≡ true
@@ -89,14 +89,14 @@ locomotive-numbered : (s : List ℕ) (c : Chains) (k : ℕ) → numbered onTheWa
 unfolding locomotiveAsks linkAsks
 locomotive-numbered s c k = refl
 
-reach-numbered : (n i : ℕ) (l : List ℕ) → numbered ofFile (reachAsks n i l) ≡ true
+pub reach-numbered : (p : ℕ → Bool) → p 12 ≡ true → (n i : ℕ) (l : List ℕ) → numbered p (reachAsks n i l) ≡ true
 unfolding reachAsks
-reach-numbered zero i l = refl
-reach-numbered (suc n) i l = reach-numbered n (i + 1) l
+reach-numbered p h zero i l = refl
+reach-numbered p h (suc n) i l = rw h (reach-numbered p h n (i + 1) l)
 
 last-numbered : (s : List ℕ) (c : Chains) → numbered ofFile (lastAsks s c) ≡ true
 unfolding lastAsks
-last-numbered s c = reach-numbered _ _ _
+last-numbered s c = reach-numbered ofFile refl _ _ _
 
 -- a refusal along the way, and one by the last questions
 cases : (P : ℕ → ℕ → Type 0) (s : List ℕ) (n k : ℕ) → (onTheWay n ≡ true → P n k)

@@ -26,6 +26,7 @@ use Rattle.slots.specs.declared.store.StoreRecord.the-variants.{Handling, Stand
 use Rattle.slot_file.specs.Sources.{VehicleGroup, Inventory}
 use Rattle.slot_file.specs.Figures.{groupContributions, storeContributions, locomotiveContributions, gathered, contributions, exactSum}
 use Rattle.slot_file.specs.Alike.{total}
+use Rattle.slot_file.specs.Demands.{Each}
 use Rattle.slot_file.specs.Parts.{partsTo}
 use Rattle.slot_file.proofs.Bag.{total-append}
 
@@ -36,11 +37,6 @@ pub record Units (x : Contribution) : Type 0 where
 
 units : (x : Contribution) {a p : ℕ} → Counted (x .tonnes) (x .rate) a p → Units x
 units x e = record { annual = rw (parts (e .annual)) (e .annual); peak = rw (parts (e .peak)) (e .peak) }
-
--- P holds of each of a list
-abbrev Each : {A : Type 0} → (A → Type 0) → List A → Type 0
-Each P [] = Unit {0}
-Each P (x ∷ xs) = P x × Each P xs
 
 module _ {A : Type 0} (P : A → Type 0) where
   each-append : (l m : List A) → Each P l → Each P m → Each P (l ++ m)

@@ -129,6 +129,10 @@ car flags t m figures = given (yard flags t) (m ∷ []) (sheet (only 337 figures
 abbrev pub fileOfB : List ℕ
 fileOfB = yard 0 (two 100)
 
+-- H
+abbrev fanOfH : Row
+fanOfH = dust (store 0 5 2 (air 500 2000 9500 1000)) " 0.180000 0.0500000"
+
 -- A to D
 unfoldable pub yards : List Row
 yards =
@@ -146,7 +150,7 @@ records =
     ∷ dust (store 0 3 2 (bulk 5 140 50 10 1 4 0 1200)) " 8.956350 0.4057200"  -- "14.0 is accepted"
     ∷ given (one (store 0 3 2 (bulk 5 141 50 10 1 4 0 1200))) [] (text "refused 9 1\n")  -- "14.1 refused 9"
     ∷ dust (store 0 4 2 (bulk 1 30 5 1 2 0 0 100)) " 5.165597 0.2340000"  -- G, K6 missing
-    ∷ dust (store 0 5 2 (air 500 2000 9500 1000)) " 0.180000 0.0500000"  -- H
+    ∷ fanOfH
     ∷ given (head 3 0 1 (two 0) ++ store 2 5 2 (air 1 1 0 111) ++ store 0 5 2 (air 1 1 0 111)) [] (sheet (only 2908 " 0.000001 0.0000020") 0 2 0)  -- I
     ∷ dust (store 0 5 2 (air 1 1 0 111)) " 0.000000 0.0000010"  -- "one alone 0.000000"
     ∷ dust (store 0 4 2 (bulk 6 20 110 501 7 0 100 5)) " 0.000001 0.0000001"  -- J, 5 m²
@@ -179,9 +183,9 @@ heavy = 687 ∷ 201 ∷ 89 ∷ 15 ∷ 8 ∷ []
 abbrev light : List ℕ
 light = 701 ∷ 194 ∷ 85 ∷ 13 ∷ 7 ∷ []
 
--- a locomotive's slot of a kind, with the byte b at a place from 18 on
-abbrev kindly : ℕ → ℕ → ℕ → List ℕ
-kindly kind at b = slot (two 0 ++ (kind ∷ 1 ∷ []) ++ flatMap two heavy ++ two 1 ++ (0 ∷ 1 ∷ []) ++ replicate (at - 18) 0 ++ (b ∷ []))
+-- a TGM6 in a slot of a kind, with the byte b at a place behind its fields
+abbrev behindFields : ℕ → ℕ → ℕ → List ℕ
+behindFields kind at b = slot (two 0 ++ (kind ∷ 1 ∷ []) ++ flatMap two heavy ++ two 1 ++ (0 ∷ 1 ∷ []) ++ replicate (at - 18) 0 ++ (b ∷ []))
 
 -- a file of locomotives alone, the first in slot 1
 abbrev engines : ℕ → List ℕ → List ℕ
@@ -229,9 +233,13 @@ answerOfB = record {
   counts = record { groups = 1; stores = 0; locomotives = 0 };
 }
 
--- ---- not of 01's examples: a file for each number from 1 to 10, for 12 and for 14, for some by several ways
+-- ---- not of 01's examples: a file for each number from 1 to 12 and for 14, for some by several ways
 abbrev no : List ℕ → String → Row
 no f t = given f [] (text t)
+
+-- a zero link, at the coefficient slot that holds it
+abbrev zeroAtRow : Row
+zeroAtRow = no (head 3 1 0 (two 0) ++ group 0 0 2 ++ coefficients 0 1 0 0 0) "refused 10 2\n"
 
 unfoldable pub refusals : List Row
 refusals =
@@ -250,7 +258,7 @@ refusals =
     ∷ no (head 2 0 1 (two 0) ++ slot []) "refused 8 1\n"
     ∷ no (head 8 1 0 (two 0) ++ group 0 4 2 ++ pollutants 0 0) "refused 9 1\n"  -- a flag of no meaning
     ∷ no (head 2 1 0 (two 0) ++ group 0 0 0) "refused 10 1\n"  -- a zero link, at the group
-    ∷ no (head 3 1 0 (two 0) ++ group 0 0 2 ++ coefficients 0 1 0 0 0) "refused 10 2\n"  -- and at the coefficient slot that holds it
+    ∷ zeroAtRow
     ∷ no (head 3 1 0 (two 0) ++ group 0 0 2 ++ coefficients 2 1 0 0 0) "refused 10 2\n"  -- a pollutant out of turn
     ∷ no (head 3 1 0 (two 0) ++ group 0 0 3 ++ slot []) "refused 6 1\n"
     ∷ no (head 4 0 1 (two 0) ++ store 0 5 2 (air 1 1 0 1) ++ slot [] ++ slot []) "refused 12 2\n"  -- the lowest
@@ -261,31 +269,30 @@ refusals =
     ∷ no (engines 2 (store 0 5 2 (air 1 1 0 1))) "refused 8 1\n"
     ∷ no (head 2 0 1 (two 0) ++ locomotive 0 1 heavy 1 0 1) "refused 8 1\n"  -- a locomotive on the store chain
     ∷ no (engines 2 (group 0 0 2)) "refused 8 1\n"  -- a group on the locomotive chain alone
-    ∷ no (engines 2 (kindly 7 18 0)) "refused 8 1\n"  -- the kind behind the last
+    ∷ no (engines 2 (behindFields 7 18 0)) "refused 8 1\n"  -- the kind behind the last
     ∷ no (engines 2 (locomotive 0 0 heavy 1 0 1)) "refused 9 1\n"
     ∷ no (engines 2 (locomotive 0 1 (1001 ∷ 0 ∷ 0 ∷ 0 ∷ 0 ∷ []) 1 0 1)) "refused 9 1\n"
     ∷ no (engines 2 (locomotive 0 1 heavy 8785 0 1)) "refused 9 1\n"
     ∷ no (engines 2 (locomotive 0 1 light 1 2 1)) "refused 9 1\n"
     ∷ no (engines 2 (locomotive 0 1 light 1 0 0)) "refused 9 1\n"
     ∷ no (engines 2 (locomotive 0 1 light 1 0 4)) "refused 9 1\n"
-    ∷ no (engines 2 (kindly 6 18 1)) "refused 9 1\n"  -- a byte behind the zone
-    ∷ no (engines 2 (kindly 6 63 1)) "refused 9 1\n"
+    ∷ no (engines 2 (behindFields 6 18 1)) "refused 9 1\n"  -- a byte behind the zone
+    ∷ no (engines 2 (behindFields 6 63 1)) "refused 9 1\n"
     ∷ no (engines 2 (locomotive 0 5 (replicate 5 1000) 1 0 1)) "refused 9 1\n"  -- 9 before 14
     ∷ no (engines 2 (locomotive 9 1 (replicate 5 199) 1 0 1)) "refused 14 1\n"  -- 14 before the next link
     ∷ no (engines 3 (locomotive 0 1 (replicate 5 201) 1 0 1 ++ slot [])) "refused 14 1\n"  -- and before 12
     ∷ no (engines 4 (locomotive 3 1 heavy 1 0 1 ++ locomotive 0 1 heavy 1 0 1 ++ locomotive 2 1 (replicate 5 201) 1 0 1)) "refused 14 3\n"  -- at the second of three
     ∷ no (engines 3 (locomotive 0 1 heavy 1 0 1 ++ slot [])) "refused 12 2\n"
-    ∷ []
-
--- and those that take a whole yard
-unfoldable pub yardRefusals : List Row
-yardRefusals =
-    no (head 8 1 1 (two 0) ++ group 0 0 2 ++ pollutants 0 0) "refused 7 1\n"  -- a group that the store chain names
+    ∷ no (head 8 1 1 (two 0) ++ group 0 0 2 ++ pollutants 0 0) "refused 7 1\n"  -- a group that the store chain names
     ∷ no (header 8 1 0 1 (two 0) ++ group 0 0 2 ++ pollutants 0 0) "refused 7 1\n"  -- and one that the locomotive chain names
     ∷ no (head 8 1 0 (two 0) ++ group 2 0 2 ++ pollutants 0 0) "refused 8 2\n"  -- a coefficient slot that the group chain names is new
     ∷ no (head 8 1 0 (two 0) ++ group 0 0 2 ++ pollutants 0 2) "refused 10 7\n"  -- a seventh
     ∷ no (head 8 1 0 (two 0) ++ group 0 0 2 ++ pollutants 1 0) "refused 11 1\n"
     ∷ []
+
+-- ---- what the crate of the definitions computes of all this itself, beside B's answer in a lent buffer: two rows that take no time
+unfoldable pub atOnce : List Row
+atOnce = fanOfH ∷ zeroAtRow ∷ []
 
 -- ---- the letter's two desks: two different files, both accepted, that are alike
 pub record Desks (s t : List ℕ) (c d : Chains) : Type 0 where

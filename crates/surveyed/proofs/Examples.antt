@@ -1,4 +1,4 @@
--- 01's STARRED ROWS, by one claim over one table; the refusals that take a whole yard; B's answer in a lent buffer; and the letter's two desks. Computed, from the
+-- 01's STARRED ROWS, by one claim over one table; locomotives by hand; a file for each refusal; and B's answer in a lent buffer. Computed, from the
 -- definitions as a whole. What is lent a buffer goes by B's answer, which is computed once. Assumes nothing.
 use mathlib.Core.Path.{_≡_, refl, subst⁻¹}
 use mathlib.Core.List.{flatMap}
@@ -22,22 +22,21 @@ use Rattle.slot_file.specs.Questions.{headAsks, member, linkAsks, coefficientHo
 use Rattle.slot_file.specs.Walk.{first, chain, locomotiveWalk, storeWalk, groupWalk, outcome}
 use Rattle.slot_file.specs.Figures.{groupContributions, storeContributions, locomotiveContributions, gathered, contributions, exactSum, annualFigure, peakFigure, summed, answered, answer}
 use Rattle.slot_file.specs.Listing.{listed, text, digits, padded, fixed, line, lines, listing, refusalLine, printed}
-use Rattle.slot_file.specs.Alike.{sameList, sameCoefficients, sameGroup, sameStore, sameLocomotive}
-use Rattle.slot_file.specs.Surveyed.{Right, yards, records, bands, surveyed, yardRefusals, fileOfB, LentOfB, answerOfB, TwoDesks}
+use Rattle.slot_file.specs.Surveyed.{Right, yards, records, bands, surveyed, locomotives, refusals, fileOfB, LentOfB, answerOfB}
 use Rattle.slot_file.proofs.Examples.{as-examples}
 
-computed : Right surveyed × Right yardRefusals × (answer fileOfB ≡ answerOfB) × TwoDesks
-unfolding yards records bands yardRefusals answerOfB flatMap sameList sameCoefficients sameGroup sameStore sameLocomotive if_then_else allTo listTo totalTo nearest upTo temperaturesInRange distancesInRange daysInRange groupInRange coefficientsInRange allZero below place tableMinutes minutesAt periodAt controlOf runAndIdle outGrams inGrams monthGrams annualTonnes peakGrams lowerOf lowestTo pollutantCode zeroWhereDue bulkInRange handlingInRange standingInRange aspirationInRange k6Of handlingPeak standingPeak bulkTonnes aspirationPeak aspirationTonnes sharesInRange locomotiveInRange sumTo sharesAddUp ageFactor modeTonnes locomotiveTonnes greatestHourly locomotivePeak bytesFrom slotOf i16At zeroFrom numberOf temperaturesOf headerOf daysOf distancesAt groupOf groupGood groupRead coefficientsOf coefficientsGood coefficientsRead bulkOf handlingOf handlingGood standingOf standingGood aspirationOf aspirationGood storeKind byKind storeOf storeGood readBy readStore sharesOf locomotiveOf locomotiveGood locomotiveRead coefficientSlot groupAt storeAt locomotiveAt temperaturesAt inventoryAt headAsks member linkAsks coefficientHolder coefficientAsks rowsAsks closingAsks coefficientSlots reachedBy groupAsks storeAsks locomotiveAsks reachAsks lastAsks first chain locomotiveWalk storeWalk groupWalk outcome groupContributions storeContributions locomotiveContributions gathered contributions exactSum annualFigure peakFigure summed answered answer text digits padded fixed line lines listing listed refusalLine printed
-computed = (refl, refl, refl, record { ours = refl; theirs = refl; alike = record { temperatures = refl; groups = refl; stores = refl; locomotives = refl } })
+computed : Right surveyed × Right locomotives × Right refusals × (answer fileOfB ≡ answerOfB)
+unfolding yards records bands locomotives refusals answerOfB flatMap if_then_else allTo listTo totalTo nearest upTo temperaturesInRange distancesInRange daysInRange groupInRange coefficientsInRange allZero below place tableMinutes minutesAt periodAt controlOf runAndIdle outGrams inGrams monthGrams annualTonnes peakGrams lowerOf lowestTo pollutantCode zeroWhereDue bulkInRange handlingInRange standingInRange aspirationInRange k6Of handlingPeak standingPeak bulkTonnes aspirationPeak aspirationTonnes sharesInRange locomotiveInRange sumTo sharesAddUp ageFactor modeTonnes locomotiveTonnes greatestHourly locomotivePeak bytesFrom slotOf i16At zeroFrom numberOf temperaturesOf headerOf daysOf distancesAt groupOf groupGood groupRead coefficientsOf coefficientsGood coefficientsRead bulkOf handlingOf handlingGood standingOf standingGood aspirationOf aspirationGood storeKind byKind storeOf storeGood readBy readStore sharesOf locomotiveOf locomotiveGood locomotiveRead coefficientSlot groupAt storeAt locomotiveAt temperaturesAt inventoryAt headAsks member linkAsks coefficientHolder coefficientAsks rowsAsks closingAsks coefficientSlots reachedBy groupAsks storeAsks locomotiveAsks reachAsks lastAsks first chain locomotiveWalk storeWalk groupWalk outcome groupContributions storeContributions locomotiveContributions gathered contributions exactSum annualFigure peakFigure summed answered answer text digits padded fixed line lines listing listed refusalLine printed
+computed = (refl, refl, refl, refl)
 
 pub as-surveyed : Right surveyed
 as-surveyed = computed .0
 
-pub as-refused : Right yardRefusals
-as-refused = computed .1
+pub as-worked : Right locomotives
+as-worked = computed .1
+
+pub as-refused : Right refusals
+as-refused = computed .2
 
 pub as-lent : LentOfB (answer fileOfB)
-as-lent = subst⁻¹ LentOfB (computed .2) (as-examples .3)
-
-pub two-desks : TwoDesks
-two-desks = computed .3
+as-lent = subst⁻¹ LentOfB (computed .3) (as-examples .1)

@@ -1,2 +1,3 @@
--- The table of examples.
+-- The table of examples, and the two desks.
 pub mod Examples
+pub mod Desks

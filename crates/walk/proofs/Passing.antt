@@ -139,11 +139,11 @@ module _ (s : List ℕ) (a : Chains) (ss : List ℕ) where
       (record-summed b l h (storeAt s k) (e .1)))
 
 module _ (s : List ℕ) (h : AllYes (headAsks s)) where
-  differ : (c : Chains) {link : ℕ} → Groups s c 0 → Stores s c link → Different (slotCount s) (sourcesOf (storesSoFar c (c .stores)))
-  differ c {link} v w = stores-differ s c (c .stores) _ link (groups-differ s (c .groups) _ 0 (v .chain) (v .good)) (w .chain) (w .good)
+  sources-differ : (c : Chains) {link : ℕ} → Groups s c 0 → Stores s c link → Different (slotCount s) (sourcesOf (storesSoFar c (c .stores)))
+  sources-differ c {link} v w = stores-differ s c (c .stores) _ link (groups-differ s (c .groups) _ 0 (v .chain) (v .good)) (w .chain) (w .good)
 
   stores-short : (c : Chains) {link : ℕ} → Groups s c 0 → Stores s c link → length (c .stores) < mostSlots
-  stores-short c v w = omega (arith, length-append (c .stores) (c .groups), different-short (slotCount s) (sourcesOf (storesSoFar c (c .stores))) (sized s h) (differ c v w))
+  stores-short c v w = omega (arith, length-append (c .stores) (c .groups), different-short (slotCount s) (sourcesOf (storesSoFar c (c .stores))) (sized s h) (sources-differ c v w))
 
   pub stores-few : {summing : Bool} {sources reached : List Bool} {totals : List ℕ} {holder link : ℕ} {counts : Counts}
       → StoresPassed s summing sources reached totals holder link counts → counts .stores < mostSlots
@@ -187,7 +187,7 @@ module _ (s : List ℕ) (h : AllYes (headAsks s)) where
       same-sums (λ (q j : ℕ). b q j + total (column q j) (listTo substanceCount x)) (sumsOf s (locomotivesSoFar a (k ∷ ls))) _ (λ q j. omega arith) (plus-all b l h′ x substanceCount)
 
   pub sources-short : (c : Chains) {link : ℕ} → Groups s c 0 → Stores s c 0 → Locomotives s c link → length (sourcesOf c) < mostSlots
-  sources-short c {link} v w u = different-short (slotCount s) (sourcesOf c) (sized s h) (locomotives-differ s c (c .locomotives) _ link (differ c v w) (u .chain) (u .good))
+  sources-short c {link} v w u = different-short (slotCount s) (sourcesOf c) (sized s h) (locomotives-differ s c (c .locomotives) _ link (sources-differ c v w) (u .chain) (u .good))
 
   locomotives-short : (c : Chains) {link : ℕ} → Groups s c 0 → Stores s c 0 → Locomotives s c link → length (c .locomotives) < mostSlots
   locomotives-short c v w u = omega (arith, length-append (c .locomotives) (c .stores ++ c .groups), sources-short c v w u)

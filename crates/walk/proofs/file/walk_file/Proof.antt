@@ -2,12 +2,14 @@
 use Prim.Native.Nat.{_-_}
 use native.Mathlib.Omega.{arith}
 use mathlib.Core.Path.{_≡_, refl, _∙_, subst}
+use lib.Dec.{ltb}
 use lib.ListN.{length}
 use Rattle.slots.specs.declared.header.Header.{Header}
 use Rattle.slot_file.specs.Questions.{slotCount, headAsksOf, headAsks, reachedOf, reachAsks, lastAsks}
 use Rattle.slot_file.specs.Meaning.{AllYes, FirstNo, at-head, at-last}
 use Rattle.slot_file.proofs.Outcomes.{sized}
-use Rattle.questions.proofs.Telling.{told-by, reach-numbered}
+use Rattle.slot_file.proofs.Numbers.{reach-numbered}
+use Rattle.questions.proofs.Telling.{told-by}
 use Rattle.walk.proofs.file.walk_file.Statement.{statement}
 use Rattle.walk.proofs.file.walk_file.Tie as tie
 
@@ -117,7 +119,7 @@ returns-5 c =
     let p = l .walk-locomotives .ensures .ended (e .if4 .left) .passed in
     let s = at-start (at-header (passed-head (at-stores-end l))) .args .file .now in
     let ls = reachedOf s (p .c) in
-    let t = told-by (reachAsks (slotCount s - 1) 1 ls) (reach-numbered (slotCount s - 1) 1 ls) (c .ask-reached .ensures ls (p .holds .reached-are)) in
+    let t = told-by (reachAsks (slotCount s - 1) 1 ls) (reach-numbered (ltb 0) refl (slotCount s - 1) 1 ls) (c .ask-reached .ensures ls (p .holds .reached-are)) in
     record {
       refuses = λ z. at-last (p .c) h (p .group-chain) (p .store-chain) (p .chain) (t .first z);
       passes = λ y. record {
