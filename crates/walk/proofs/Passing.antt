@@ -35,7 +35,8 @@ use Rattle.totals.proofs.Adding.{plus-room, plus-to-room}
 use Rattle.totals.proofs.Sums.{same-sums, plus-emitted, plus-all}
 use Rattle.walk.specs.Rows.{marksTo}
 use Rattle.walk.specs.Steps.{GroupStepped, StoreStepped, LocomotiveStepped}
-use Rattle.walk.specs.Walked.{sumsOf, ChainWalked, Ended, plusGroup, GroupsPassed, recordEmission, storeEmission, plusStore, StoresPassed, plusLocomotive, LocomotivesPassed}
+use Rattle.source_sums.specs.Added.{plusGroup, recordEmission, storeEmission, plusStore, plusLocomotive}
+use Rattle.walk.specs.Walked.{sumsOf, ChainWalked, Ended, GroupsPassed, StoresPassed, LocomotivesPassed}
 use Rattle.walk.specs.declared.walked.Walked.{Walked}
 use Rattle.walk.specs.declared.group_chain.GroupStep.{GroupStep}
 use Rattle.walk.specs.declared.store_chain.StoreStep.{StoreStep}

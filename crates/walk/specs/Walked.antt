@@ -4,26 +4,15 @@ use mathlib.Core.Path.{_≡_}
 use mathlib.Core.Bool.{Bool, true}
 use mathlib.Core.List.{List, []}
 use lib.ListN.{length}
-use Rattle.sums.specs.Choice.{if_then_else}
-use Rattle.sums.specs.Answer.{Contribution, noEmission}
-use Rattle.sums.specs.declared.answer.Emission.{Emission}
-use Rattle.stores.specs.Rules.{handlingAnswer, standingAnswer, aspirationAnswer}
-use Rattle.vehicles.specs.Rules.{emissionCount}
-use Rattle.vehicles.specs.declared.rule.GroupAnswer.{GroupAnswer}
-use Rattle.locomotives.specs.Rules.{substanceCount}
-use Rattle.locomotives.specs.declared.rule.LocomotiveAnswer.{LocomotiveAnswer}
+use Rattle.sums.specs.Answer.{Contribution}
 use Rattle.slots.specs.declared.header.Header.{Header}
-use Rattle.slots.specs.declared.store.StoreRecord.{StoreRecord}
-use Rattle.slots.specs.declared.store.StoreRecord.the-variants.{Handling, Standing, Aspiration}
-use Rattle.slots.specs.declared.store.StoreRead.{StoreRead}
-use Rattle.slots.specs.declared.store.StoreRead.the-variants.{Record, WrongKind, OutOfRange}
 use Rattle.slot_file.specs.Sources.{groupAt, storeAt, locomotiveAt, headerAt, temperaturesAt, Chains}
 use Rattle.slot_file.specs.Questions.{headAsks, lastOf, sourcesOf, reachedOf, groupsSoFar, storesSoFar, locomotivesSoFar}
 use Rattle.slot_file.specs.Meaning.{AllYes, Groups, Stores, Locomotives, Accepts, Refuses}
 use Rattle.slot_file.specs.Figures.{groupContributions, storeContributions, locomotiveContributions, countsOf}
 use Rattle.slot_file.specs.Alike.{total}
 use Rattle.slot_file.specs.Parts.{marksOf}
-use Rattle.totals.specs.Totals.{numberCount, noNumbers, plusIn, plusToIn, column, Sums}
+use Rattle.totals.specs.Totals.{numberCount, noNumbers, column, Sums}
 use Rattle.slot_file.specs.declared.Counts.{Counts}
 use Rattle.walk.specs.declared.walked.Walked.{Walked}
 
@@ -56,9 +45,6 @@ pub record Ended (Passed : ℕ → ℕ → Counts → Type 0) (counts : Counts) 
   pub holder : ℕ
   pub passed : Passed holder 0 counts
 
-unfoldable pub plusGroup : Bool → List ℕ → GroupAnswer → List ℕ
-plusGroup summing l a = if_then_else summing (plusToIn l (a .emissions) emissionCount) l
-
 -- where the group chain begins: questions 1 to 5 are answered yes, nothing is marked but slot 0 and nothing is summed
 pub record GroupsBegin (s : List ℕ) (sources reached : List Bool) (totals : List ℕ) (h : Header) : Type 0 where
   pub head : AllYes (headAsks s)
@@ -81,20 +67,6 @@ GroupsEnded s summing sources reached totals = Ended (GroupsPassed s summing sou
 abbrev pub GroupsWalked : List ℕ → Bool → List Bool → List Bool → List ℕ → Walked → Type 0
 GroupsWalked s summing sources reached totals r = ChainWalked s (GroupsEnded s summing sources reached totals) r
 
--- what a store record's rule answers
-unfoldable pub recordEmission : StoreRecord → Emission
-recordEmission (Handling h) = handlingAnswer h .emission
-recordEmission (Standing s) = standingAnswer s .emission
-recordEmission (Aspiration a) = aspirationAnswer a .emission
-
-unfoldable pub storeEmission : StoreRead → Emission
-storeEmission (Record r) = recordEmission r
-storeEmission WrongKind = noEmission
-storeEmission OutOfRange = noEmission
-
-unfoldable pub plusStore : Bool → List ℕ → StoreRead → List ℕ
-plusStore summing l r = if_then_else summing (plusIn l (storeEmission r)) l
-
 -- where the store chain begins: the group chain has ended
 pub record StoresBegin (s : List ℕ) (summing : Bool) (sources reached : List Bool) (totals : List ℕ) (h : Header) (start : Walked) : Type 0 where
   pub head : AllYes (headAsks s)
@@ -115,9 +87,6 @@ StoresEnded s summing sources reached totals = Ended (StoresPassed s summing sou
 
 abbrev pub StoresWalked : List ℕ → Bool → List Bool → List Bool → List ℕ → Walked → Type 0
 StoresWalked s summing sources reached totals r = ChainWalked s (StoresEnded s summing sources reached totals) r
-
-unfoldable pub plusLocomotive : Bool → List ℕ → LocomotiveAnswer → List ℕ
-plusLocomotive summing l a = if_then_else summing (plusToIn l (a .emissions) substanceCount) l
 
 -- where the locomotive chain begins: the store chain has ended
 pub record LocomotivesBegin (s : List ℕ) (summing : Bool) (sources reached : List Bool) (totals : List ℕ) (h : Header) (start : Walked) : Type 0 where

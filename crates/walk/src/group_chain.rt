@@ -2,10 +2,9 @@
 ghost use mathlib.Core.Path.{_≡_};
 ghost use Prim.Native.Nat.{_≤_};
 ghost use lib.ListN.{length};
-ghost use Rattle.vehicles.specs.Rules.{groupAnswer};
 ghost use Rattle.slot_file.specs.Questions.{mostBytes};
 ghost use Rattle.walk.specs.Steps.{GroupStepped};
-ghost use Rattle.walk.specs.Walked.{plusGroup, GroupsBegin, GroupsWalked};
+ghost use Rattle.walk.specs.Walked.{GroupsBegin, GroupsWalked};
 use super::marks;
 use super::rows;
 use super::walked;
@@ -63,19 +62,6 @@ fn step_group(
     }
 }
 
-// Adds a group's emissions, where sums are wanted.
-fn add_group(totals: &mut [u64], summing: bool, temperatures: [i16; 12], step: GroupStep)
-    ensures { λ _. ⌜ now (totals .exit) ≡ plusGroup summing (now (totals .entry)) (groupAnswer (step .group) temperatures (step .coefficients)) ⌝ }
-{
-    if summing {
-        let group = step.group;
-        let coefficients = step.coefficients;
-        let answer = vehicles::group_emissions(group, temperatures, coefficients);
-        let emissions = answer.emissions;
-        totals::add_all(totals, emissions);
-    }
-}
-
 // The group chain, from slot 0 to a zero or to the first question that is answered no. It ends: a step that goes on has marked a source that was not marked before
 // (question 7), and a file has fewer than MOST_SLOTS of them.
 pub(crate) fn walk_groups(
@@ -99,7 +85,9 @@ pub(crate) fn walk_groups(
         if verdict.number != 0 {
             return Walked { verdict, counts };
         }
-        add_group(totals, summing, temperatures, step);
+        let group = step.group;
+        let coefficients = step.coefficients;
+        source_sums::add_group(totals, summing, temperatures, group, coefficients);
         holder = link;
         link = step.next;
         counts.groups += 1;

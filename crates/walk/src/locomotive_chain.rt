@@ -2,10 +2,9 @@
 ghost use mathlib.Core.Path.{_≡_};
 ghost use Prim.Native.Nat.{_≤_};
 ghost use lib.ListN.{length};
-ghost use Rattle.locomotives.specs.Rules.{locomotiveAnswer};
 ghost use Rattle.slot_file.specs.Questions.{mostBytes};
 ghost use Rattle.walk.specs.Steps.{LocomotiveStepped};
-ghost use Rattle.walk.specs.Walked.{plusLocomotive, LocomotivesBegin, LocomotivesWalked};
+ghost use Rattle.walk.specs.Walked.{LocomotivesBegin, LocomotivesWalked};
 use super::marks;
 use super::walked::Walked;
 use locomotives::Locomotive;
@@ -48,19 +47,6 @@ fn step_locomotive(
     }
 }
 
-// Adds a locomotive's emissions, where sums are wanted.
-fn add_locomotive(totals: &mut [u64], summing: bool, locomotive: Locomotive)
-    ensures { λ _. ⌜ now (totals .exit) ≡ plusLocomotive summing (now (totals .entry)) (locomotiveAnswer locomotive) ⌝ }
-{
-    if summing {
-        let answer = locomotives::locomotive_emissions(locomotive);
-        let emissions = answer.emissions;
-        totals::add(totals, emissions[0]);
-        totals::add(totals, emissions[1]);
-        totals::add(totals, emissions[2]);
-    }
-}
-
 // The locomotive chain, after the groups and the store records, from slot 0 to a zero or to the first question that is answered no. It ends as the group chain does:
 // each step that goes on has marked one source more.
 pub(crate) fn walk_locomotives(
@@ -85,7 +71,7 @@ pub(crate) fn walk_locomotives(
             return Walked { verdict, counts };
         }
         let locomotive = step.locomotive;
-        add_locomotive(totals, summing, locomotive);
+        source_sums::add_locomotive(totals, summing, locomotive);
         holder = link;
         link = step.next;
         counts.locomotives += 1;

@@ -5,14 +5,12 @@ ghost use lib.ListN.{length};
 ghost use Rattle.slots.specs.Layout.{readNumber};
 ghost use Rattle.slot_file.specs.Questions.{mostBytes};
 ghost use Rattle.walk.specs.Steps.{StoreStepped};
-ghost use Rattle.walk.specs.Walked.{recordEmission, storeEmission, plusStore, StoresBegin, StoresWalked};
+ghost use Rattle.walk.specs.Walked.{StoresBegin, StoresWalked};
 use super::marks;
 use super::walked::Walked;
 use slot_file::MOST_SLOTS;
 use slots::Header;
 use slots::StoreRead;
-use slots::StoreRecord;
-use sums::Emission;
 use sums::Verdict;
 
 // What a link to a store record was told, the record, and the next link.
@@ -63,44 +61,6 @@ fn step_store(
     }
 }
 
-fn record_emission(store: StoreRecord) -> Emission
-    ensures { λ r. ⌜ r ≡ recordEmission store ⌝ }
-{
-    match store {
-        StoreRecord::Handling(h) => {
-            let answer = stores::handling_emission(h);
-            answer.emission
-        }
-        StoreRecord::Standing(s) => {
-            let answer = stores::standing_emission(s);
-            answer.emission
-        }
-        StoreRecord::Aspiration(a) => {
-            let answer = stores::aspiration_emission(a);
-            answer.emission
-        }
-    }
-}
-
-fn store_emission(read: StoreRead) -> Emission
-    ensures { λ r. ⌜ r ≡ storeEmission read ⌝ }
-{
-    match read {
-        StoreRead::Record(store) => record_emission(store),
-        StoreRead::WrongKind => Emission::none(),
-        StoreRead::OutOfRange => Emission::none(),
-    }
-}
-
-// Adds a store record's emission, where sums are wanted.
-fn add_store(totals: &mut [u64], summing: bool, read: StoreRead)
-    ensures { λ _. ⌜ now (totals .exit) ≡ plusStore summing (now (totals .entry)) read ⌝ }
-{
-    if summing {
-        totals::add(totals, store_emission(read));
-    }
-}
-
 // The store chain, after the groups, from slot 0 to a zero or to the first question that is answered no. It ends as the group chain does: each step that goes on has
 // marked one source more.
 pub(crate) fn walk_stores(
@@ -125,7 +85,7 @@ pub(crate) fn walk_stores(
             return Walked { verdict, counts };
         }
         let read = step.read;
-        add_store(totals, summing, read);
+        source_sums::add_store(totals, summing, read);
         holder = link;
         link = step.next;
         counts.stores += 1;

@@ -41,9 +41,12 @@ loop-holds c =
       };
     }
 
--- back from where a group is added to where it is stepped on, to the loop, and to the start
+-- back from where a group is added to where it has passed, to where it is stepped on, to the loop, and to the start
+abbrev at-passed : tie.After-add-group Inv-loop μ-loop → tie.Else1 Inv-loop μ-loop
+at-passed c = c .before .before .before .before
+
 abbrev at-step : tie.After-add-group Inv-loop μ-loop → tie.After-step-group Inv-loop μ-loop
-at-step c = c .before .before .before .before .before
+at-step c = at-passed c .before .before .before
 
 abbrev at-loop : tie.After-step-group Inv-loop μ-loop → tie.At-loop Inv-loop μ-loop
 at-loop c = c .before .before .before .before
@@ -88,7 +91,7 @@ loop-again c =
     let d = at-step l in
     let b = at-loop d in
     let a = at-start b in
-    group-passed _ (a .pre .head) (b .loop .inv) (d .before .before .before .loop-test .taken) (d .step-group .ensures) (l .before .before .if1 .left)
+    group-passed _ (a .pre .head) (b .loop .inv) (d .before .before .before .loop-test .taken) (d .step-group .ensures) (at-passed l .if1 .left)
     (a .args .h .temperatures) (ap (λ (h : Header). h .temperatures) (a .pre .header)) (l .add-group .ensures)
 
 same-length-2 : tie.Need-same-length-2 Inv-loop μ-loop

@@ -10,9 +10,9 @@ use Rattle.sums.proofs.Choices.{yes, no}
 use Rattle.locomotives.specs.Rules.{substanceCount}
 use Rattle.locomotives.specs.declared.rule.LocomotiveAnswer.{LocomotiveAnswer}
 use Rattle.totals.specs.Totals.{plusIn, plusToIn}
-use Rattle.walk.specs.Walked.{plusLocomotive}
-use Rattle.walk.proofs.locomotive_chain.add_locomotive.Statement.{statement}
-use Rattle.walk.proofs.locomotive_chain.add_locomotive.Tie as tie
+use Rattle.source_sums.specs.Added.{plusLocomotive}
+use Rattle.source_sums.proofs.add_locomotive.Statement.{statement}
+use Rattle.source_sums.proofs.add_locomotive.Tie as tie
 
 -- back from the third emission to the second, to the first, and to the rule
 abbrev at-second : tie.After-add3 → tie.After-add2

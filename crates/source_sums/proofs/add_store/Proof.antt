@@ -3,9 +3,9 @@ use native.Mathlib.Omega.{arith}
 use mathlib.Core.Path.{refl, ap, _∙_}
 use Rattle.sums.proofs.Choices.{yes, no}
 use Rattle.totals.specs.Totals.{plusIn}
-use Rattle.walk.specs.Walked.{plusStore}
-use Rattle.walk.proofs.store_chain.add_store.Statement.{statement}
-use Rattle.walk.proofs.store_chain.add_store.Tie as tie
+use Rattle.source_sums.specs.Added.{plusStore}
+use Rattle.source_sums.proofs.add_store.Statement.{statement}
+use Rattle.source_sums.proofs.add_store.Tie as tie
 
 returns : tie.Need-returns
 unfolding plusStore

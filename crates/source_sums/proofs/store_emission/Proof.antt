@@ -1,9 +1,9 @@
 -- What the record gives, where there is one.
 use native.Mathlib.Omega.{arith}
 use mathlib.Core.Path.{sym, ap, _∙_}
-use Rattle.walk.specs.Walked.{storeEmission}
-use Rattle.walk.proofs.store_chain.store_emission.Statement.{statement}
-use Rattle.walk.proofs.store_chain.store_emission.Tie as tie
+use Rattle.source_sums.specs.Added.{storeEmission}
+use Rattle.source_sums.proofs.store_emission.Statement.{statement}
+use Rattle.source_sums.proofs.store_emission.Tie as tie
 
 pub store-emission-spec : {M : Type 1} → statement M
 unfolding storeEmission

@@ -5,16 +5,16 @@ use Rattle.sums.proofs.Choices.{yes, no}
 use Rattle.vehicles.specs.Rules.{emissionCount}
 use Rattle.vehicles.specs.declared.rule.GroupAnswer.{GroupAnswer}
 use Rattle.totals.specs.Totals.{plusToIn}
-use Rattle.walk.specs.Walked.{plusGroup}
-use Rattle.walk.proofs.group_chain.add_group.Statement.{statement}
-use Rattle.walk.proofs.group_chain.add_group.Tie as tie
+use Rattle.source_sums.specs.Added.{plusGroup}
+use Rattle.source_sums.proofs.add_group.Statement.{statement}
+use Rattle.source_sums.proofs.add_group.Tie as tie
 
 returns : tie.Need-returns
 unfolding plusGroup
 returns c =
     let a = c .before .before in
     let g = a .before .before .before in
-    let b = g .before .before .before in
+    let b = g .before in
     let l = b .before .before .args .totals .now in
     yes _ _ _ _ (b .if1 .taken) (a .add-all .ensures ∙ ap (λ (r : GroupAnswer). plusToIn l (r .emissions) emissionCount) (g .group-emissions .ensures))
 

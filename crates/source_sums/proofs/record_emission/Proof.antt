@@ -2,9 +2,9 @@
 use native.Mathlib.Omega.{arith}
 use mathlib.Core.Path.{sym, ap, _∙_}
 use Rattle.stores.specs.declared.rules.StoreAnswer.{StoreAnswer}
-use Rattle.walk.specs.Walked.{recordEmission}
-use Rattle.walk.proofs.store_chain.record_emission.Statement.{statement}
-use Rattle.walk.proofs.store_chain.record_emission.Tie as tie
+use Rattle.source_sums.specs.Added.{recordEmission}
+use Rattle.source_sums.proofs.record_emission.Statement.{statement}
+use Rattle.source_sums.proofs.record_emission.Tie as tie
 
 pub record-emission-spec : {M : Type 1} → statement M
 unfolding recordEmission
