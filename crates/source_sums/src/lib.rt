@@ -11,17 +11,19 @@ use vehicle_fields::Coefficients;
 use vehicle_fields::Group;
 use vehicle_fields::POLLUTANTS;
 
+// A group with its own coefficients.
+pub struct GroupSource {
+    pub group: Group,
+    pub coefficients: [Coefficients; POLLUTANTS],
+}
+
 // Adds a group's emissions.
-pub fn add_group(
-    totals: &mut [u64],
-    summing: bool,
-    temperatures: [i16; 12],
-    group: Group,
-    coefficients: [Coefficients; POLLUTANTS],
-)
-    ensures { λ _. ⌜ now (totals .exit) ≡ plusGroup summing (now (totals .entry)) (groupAnswer group temperatures coefficients) ⌝ }
+pub fn add_group(totals: &mut [u64], summing: bool, temperatures: [i16; 12], source: GroupSource)
+    ensures { λ _. ⌜ now (totals .exit) ≡ plusGroup summing (now (totals .entry)) (groupAnswer (source .group) temperatures (source .coefficients)) ⌝ }
 {
     if summing {
+        let group = source.group;
+        let coefficients = source.coefficients;
         let answer = vehicles::group_emissions(group, temperatures, coefficients);
         let emissions = answer.emissions;
         totals::add_all(totals, emissions);

@@ -88,11 +88,11 @@ module _ (s : List ℕ) where
     pub group-passed : {summing : Bool} {sources sources′ reached reached′ : List Bool} {totals totals′ : List ℕ} {holder link : ℕ} {counts : Counts} {r : GroupStep}
         → GroupsPassed s summing sources reached totals holder link counts → (link ≡ 0 → ⊥)
         → GroupStepped s holder link sources sources′ reached reached′ r → r .verdict .number ≡ 0
-        → (ts : List ℤ) → ts ≡ temperaturesAt s → totals′ ≡ plusGroup summing totals (groupAnswer (r .group) ts (r .coefficients))
+        → (ts : List ℤ) → ts ≡ temperaturesAt s → totals′ ≡ plusGroup summing totals (groupAnswer (r .source .group) ts (r .source .coefficients))
         → GroupsPassed s summing sources′ reached′ totals′ link (r .next) (record { groups = counts .groups + 1; stores = counts .stores; locomotives = counts .locomotives })
     unfolding plusGroup if_then_else
     group-passed {summing} {totals = totals} {link = g} {counts} {r} p z t y ts w f =
-        let d = f ∙ ap (λ (l : List ℤ). plusGroup summing totals (groupAnswer (r .group) l (r .coefficients))) w in
+        let d = f ∙ ap (λ (l : List ℤ). plusGroup summing totals (groupAnswer (r .source .group) l (r .source .coefficients))) w in
         let q = t .passed y in
         let h′ = p .holds in
         let n : counts .groups + 1 ≡ length (g ∷ p .gs) = omega (arith, ap (λ (m : Counts). m .groups) (h′ .counts-are)) in
@@ -105,10 +105,10 @@ module _ (s : List ℕ) where
             counts-are = λ i. record { groups = n i; stores = h′ .counts-are i .stores; locomotives = h′ .counts-are i .locomotives };
             sources-are = q .source-marked ∙ ap (λ (l : List Bool). set l g true) (h′ .sources-are);
             reached-are = q .slots-marked ∙ ap (λ (l : List Bool). marksTo s g (set l g true) pollutantCount) (h′ .reached-are) ∙ group-marked (p .gs) g;
-            room = ap length d ∙ same-room summing totals (plusToIn totals (groupAnswer (r .group) (temperaturesAt s) (r .coefficients) .emissions) emissionCount) (plus-to-room totals _ emissionCount) ∙ h′ .room;
+            room = ap length d ∙ same-room summing totals (plusToIn totals (groupAnswer (r .source .group) (temperaturesAt s) (r .source .coefficients) .emissions) emissionCount) (plus-to-room totals _ emissionCount) ∙ h′ .room;
             sums-are = λ e.
                 subst (Sums (sumsOf s (groupsSoFar (g ∷ p .gs))))
-                (sym (d ∙ ap (λ (b : Bool). plusGroup b totals (groupAnswer (r .group) (temperaturesAt s) (r .coefficients))) e
+                (sym (d ∙ ap (λ (b : Bool). plusGroup b totals (groupAnswer (r .source .group) (temperaturesAt s) (r .source .coefficients))) e
                 ∙ (λ i. plusToIn totals (groupAnswer (q .group i) (temperaturesAt s) (q .coefficients i) .emissions) emissionCount)
                 ∙ ap (λ l. plusToIn totals l emissionCount) (group-answered s (groupsSoFar (p .gs)) g a h)))
                 (group-summed (p .gs) g totals (h′ .sums-are e));

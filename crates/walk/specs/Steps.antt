@@ -23,8 +23,8 @@ ReachTold marks count v = (l : List ℕ) → marks ≡ marksOf l → v ≡ toldB
 
 -- a group that nothing is refused of, and the marks after it
 pub record GroupTaken (s : List ℕ) (g : ℕ) (sources sources′ reached reached′ : List Bool) (r : GroupStep) : Type 0 where
-  pub group : r .group ≡ groupAt s g .group
-  pub coefficients : r .coefficients ≡ groupAt s g .coefficients
+  pub group : r .source .group ≡ groupAt s g .group
+  pub coefficients : r .source .coefficients ≡ groupAt s g .coefficients
   pub next : r .next ≡ nextOf (slotOf s g)
   pub source-marked : sources′ ≡ set sources g true
   pub slots-marked : reached′ ≡ marksTo s g (set reached g true) pollutantCount

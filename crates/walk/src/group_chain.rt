@@ -11,16 +11,13 @@ use super::walked;
 use super::walked::Walked;
 use slot_file::MOST_SLOTS;
 use slots::Header;
+use source_sums::GroupSource;
 use sums::Verdict;
-use vehicle_fields::Coefficients;
-use vehicle_fields::Group;
-use vehicle_fields::POLLUTANTS;
 
 // What a link to a group was told, the group with its coefficients, and the next link.
 pub(crate) struct GroupStep {
     pub(crate) verdict: Verdict,
-    pub(crate) group: Group,
-    pub(crate) coefficients: [Coefficients; POLLUTANTS],
+    pub(crate) source: GroupSource,
     pub(crate) next: u16,
 }
 
@@ -43,8 +40,10 @@ fn step_group(
     if verdict.number != 0 {
         return GroupStep {
             verdict,
-            group,
-            coefficients: rows::no_rows(),
+            source: GroupSource {
+                group,
+                coefficients: rows::no_rows(),
+            },
             next: read.next,
         };
     }
@@ -56,8 +55,10 @@ fn step_group(
     let due = vehicle_fields::zero_where_due(group, coefficients);
     GroupStep {
         verdict: questions::ask(verdict, due, 11, link),
-        group,
-        coefficients,
+        source: GroupSource {
+            group,
+            coefficients,
+        },
         next: read.next,
     }
 }
@@ -85,9 +86,7 @@ pub(crate) fn walk_groups(
         if verdict.number != 0 {
             return Walked { verdict, counts };
         }
-        let group = step.group;
-        let coefficients = step.coefficients;
-        source_sums::add_group(totals, summing, temperatures, group, coefficients);
+        source_sums::add_group(totals, summing, temperatures, step.source);
         holder = link;
         link = step.next;
         counts.groups += 1;

@@ -14,7 +14,7 @@ unfolding plusGroup
 returns c =
     let a = c .before .before in
     let g = a .before .before .before in
-    let b = g .before in
+    let b = g .before .before .before in
     let l = b .before .before .args .totals .now in
     yes _ _ _ _ (b .if1 .taken) (a .add-all .ensures ∙ ap (λ (r : GroupAnswer). plusToIn l (r .emissions) emissionCount) (g .group-emissions .ensures))
 

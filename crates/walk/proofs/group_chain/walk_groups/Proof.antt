@@ -43,7 +43,7 @@ loop-holds c =
 
 -- back from where a group is added to where it has passed, to where it is stepped on, to the loop, and to the start
 abbrev at-passed : tie.After-add-group Inv-loop μ-loop → tie.Else1 Inv-loop μ-loop
-at-passed c = c .before .before .before .before
+at-passed c = c .before .before
 
 abbrev at-step : tie.After-add-group Inv-loop μ-loop → tie.After-step-group Inv-loop μ-loop
 at-step c = at-passed c .before .before .before
