@@ -13,10 +13,10 @@ use Rattle.sums.specs.Exactness.{Bounded, Exactly}
 use Rattle.sums.proofs.Choices.{both, listTo-at, sumTo-bound}
 use Rattle.sums.proofs.Products.{_⊗_}
 use Rattle.sums.proofs.Sources.{bounded, exactly}
-use Rattle.locomotives.specs.Fields.{modeCount, locomotiveInRange, sharesAddUp}
+use Rattle.locomotive_fields.specs.Fields.{modeCount, locomotiveInRange, sharesAddUp}
+use Rattle.locomotive_fields.specs.declared.fields.Locomotive.{Locomotive}
 use Rattle.locomotives.specs.Rules.{substanceCount, locomotiveTonnes, locomotivePeak, locomotiveContribution, locomotiveEmissions, locomotiveAnswer}
 use Rattle.locomotives.specs.Parts.{hourlyParts, meanParts, greatestParts, hourParts}
-use Rattle.locomotives.specs.declared.fields.Locomotive.{Locomotive}
 use Rattle.locomotives.proofs.Scales.{hourly-scaled, zone-scaled, age-scaled}
 use Rattle.locomotives.proofs.Ranges.{ranged}
 use Rattle.locomotives.proofs.Paper.{locomotive-counted}

@@ -11,10 +11,10 @@ use lib.ListN.{getD}
 use Rattle.sums.specs.Choice.{if_then_else, sumTo}
 use Rattle.sums.specs.Fraction.{whole, partsOf}
 use Rattle.sums.proofs.Choices.{listTo-at}
-use Rattle.locomotives.specs.Fields.{modeCount, locomotiveInRange}
+use Rattle.locomotive_fields.specs.Fields.{modeCount, locomotiveInRange}
+use Rattle.locomotive_fields.specs.declared.fields.Locomotive.{Locomotive}
 use Rattle.locomotives.specs.Rules.{substanceCount, table21, placeIn}
 use Rattle.locomotives.specs.Parts.{hourlyParts, hourlyOf, meanParts, greatestParts, modesOf, withRate}
-use Rattle.locomotives.specs.declared.fields.Locomotive.{Locomotive}
 use Rattle.locomotives.proofs.Scales.{hourly-scaled}
 use Rattle.locomotives.proofs.Bounds.{mean-most}
 

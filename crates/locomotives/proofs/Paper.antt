@@ -13,10 +13,10 @@ use Rattle.sums.specs.Fraction.{Frac, _over_, _≈_}
 use Rattle.sums.specs.Exactness.{Counted}
 use Rattle.sums.proofs.Choices.{sumTo-times}
 use Rattle.sums.proofs.Fractions.{≈-refl, ≈-⊙, ≈-per, ≈-over, totalTo-parts}
-use Rattle.locomotives.specs.Fields.{modeCount}
+use Rattle.locomotive_fields.specs.Fields.{modeCount}
+use Rattle.locomotive_fields.specs.declared.fields.Locomotive.{Locomotive}
 use Rattle.locomotives.specs.Rules.{modeTonnes, locomotiveTonnes, larger, greatestHourly, locomotivePeak}
 use Rattle.locomotives.specs.Parts.{hourlyParts, meanParts, largerParts, greatestParts, hourParts, yearUnits, peakUnits}
-use Rattle.locomotives.specs.declared.fields.Locomotive.{Locomotive}
 use Rattle.locomotives.proofs.Scales.{hourly-scaled, zone-scaled, age-scaled}
 
 -- by a test, a choice of parts is the parts of a choice

@@ -6,8 +6,8 @@ use borrow.Author.Tests.{leb-true}
 use lib.Dec.{leb}
 use lib.ListN.{getD}
 use Rattle.sums.proofs.Choices.{nth, allTo-at}
-use Rattle.locomotives.specs.Fields.{modeCount, sharesInRange, locomotiveTests, locomotiveInRange}
-use Rattle.locomotives.specs.declared.fields.Locomotive.{Locomotive}
+use Rattle.locomotive_fields.specs.Fields.{modeCount, sharesInRange, locomotiveTests, locomotiveInRange}
+use Rattle.locomotive_fields.specs.declared.fields.Locomotive.{Locomotive}
 
 pub record Ranged (l : Locomotive) : Type 0 where
   pub model : (1 ≤ l .model) × (l .model ≤ 4)

@@ -5,9 +5,9 @@ use mathlib.Core.Bool.{true, false}
 use lib.ListN.{replicate}
 use Rattle.sums.specs.Choice.{if_then_else}
 use Rattle.sums.specs.Answer.{noEmission}
-use Rattle.locomotives.specs.Fields.{locomotiveInRange, sharesAddUp}
+use Rattle.locomotive_fields.specs.Fields.{locomotiveInRange, sharesAddUp}
+use Rattle.locomotive_fields.specs.declared.fields.Locomotive.{Locomotive}
 use Rattle.locomotives.specs.Rules.{substanceCount, locomotiveAnswer}
-use Rattle.locomotives.specs.declared.fields.Locomotive.{Locomotive}
 
 pub out-of-range : (l : Locomotive) → locomotiveInRange l ≡ false
     → locomotiveAnswer l ≡ record { verdict = record { number = 9; slot = 0 }; emissions = replicate substanceCount noEmission }

@@ -6,8 +6,8 @@ use lib.Dec.{eqb}
 use Rattle.sums.specs.Fraction.{_over_, whole, partsOf}
 use Rattle.sums.proofs.Choices.{both}
 use Rattle.sums.proofs.Tables.{Scaled, allScaled, entry}
+use Rattle.locomotive_fields.specs.declared.fields.Locomotive.{Locomotive}
 use Rattle.locomotives.specs.Rules.{table21, placeIn, hourlyAt, ageFactor, zoneTable, zoneFactor}
-use Rattle.locomotives.specs.declared.fields.Locomotive.{Locomotive}
 
 pub hourly-scaled : (l : Locomotive) (p k : ℕ) → Scaled 1000 15210 (hourlyAt l p k)
 unfolding allScaled partsOf

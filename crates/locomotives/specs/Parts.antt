@@ -6,10 +6,10 @@ use lib.ListN.{getD}
 use Rattle.sums.specs.Choice.{if_then_else, sumTo, listTo}
 use Rattle.sums.specs.Fraction.{whole, partsOf}
 use Rattle.sums.specs.Figures.{tonneParts, gramParts, annualOf, peakOf}
-use Rattle.locomotives.specs.Rules.{locomotiveCodes, substanceCount, table21, placeIn, hourlyAt, ageFactor, zoneFactor}
-use Rattle.locomotives.specs.Fields.{modeCount}
 use Rattle.sums.specs.declared.answer.Emission.{Emission}
-use Rattle.locomotives.specs.declared.fields.Locomotive.{Locomotive}
+use Rattle.locomotive_fields.specs.Fields.{modeCount}
+use Rattle.locomotive_fields.specs.declared.fields.Locomotive.{Locomotive}
+use Rattle.locomotives.specs.Rules.{locomotiveCodes, substanceCount, table21, placeIn, hourlyAt, ageFactor, zoneFactor}
 use Rattle.locomotives.specs.declared.rule.Modes.{Modes}
 use Rattle.locomotives.specs.declared.rule.AllModes.{AllModes}
 

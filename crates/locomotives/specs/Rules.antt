@@ -7,8 +7,8 @@ use Rattle.sums.specs.Choice.{if_then_else, listTo}
 use Rattle.sums.specs.Fraction.{Frac, _over_, whole, _⊙_, _per_, totalTo}
 use Rattle.sums.specs.Answer.{Contribution, contribution, noRefusal, refusedBy, emitted, noEmission}
 use Rattle.sums.specs.declared.answer.Emission.{Emission}
-use Rattle.locomotives.specs.Fields.{modeCount, locomotiveInRange, sharesAddUp}
-use Rattle.locomotives.specs.declared.fields.Locomotive.{Locomotive}
+use Rattle.locomotive_fields.specs.Fields.{modeCount, locomotiveInRange, sharesAddUp}
+use Rattle.locomotive_fields.specs.declared.fields.Locomotive.{Locomotive}
 use Rattle.locomotives.specs.declared.rule.LocomotiveAnswer.{LocomotiveAnswer}
 
 -- "CO, NO2 and soot join the sums": 0337, 0301 and 0328 by 01, in the order of table 21

@@ -2,14 +2,13 @@
 ghost use mathlib.Core.Path.{_≡_};
 ghost use mathlib.Core.Bool.{true};
 ghost use Prim.Native.Nat.{_+_, _<_, _≤_};
-ghost use Rattle.locomotives.specs.Fields.{modeCount, locomotiveInRange};
+ghost use Rattle.locomotive_fields.specs.Fields.{modeCount, locomotiveInRange};
 ghost use Rattle.locomotives.specs.Rules.{substanceCount, locomotiveEmissions, locomotiveRefusal, locomotiveAnswer};
 ghost use Rattle.locomotives.specs.Parts.{hourlyOf, allModes, withRate, hourParts, emissionParts};
-use super::fields;
-use super::fields::Locomotive;
-use super::fields::MODES;
 use super::table;
 use super::table::RATES;
+use locomotive_fields::Locomotive;
+use locomotive_fields::MODES;
 use sums::AnnualSum;
 use sums::Emission;
 use sums::PeakSum;
@@ -142,8 +141,8 @@ impl LocomotiveAnswer {
 pub fn locomotive_emissions(l: Locomotive) -> LocomotiveAnswer
     ensures { λ r. ⌜ r ≡ locomotiveAnswer l ⌝ }
 {
-    if fields::locomotive_in_range(l) {
-        if fields::shares_add_up(l) {
+    if locomotive_fields::locomotive_in_range(l) {
+        if locomotive_fields::shares_add_up(l) {
             LocomotiveAnswer {
                 verdict: Verdict { number: 0, slot: 0 },
                 emissions: emissions_of(l),

@@ -4,8 +4,8 @@ ghost use Prim.Native.Nat.{_≤_};
 ghost use Rattle.sums.specs.Fraction.{partsOf};
 ghost use Rattle.locomotives.specs.Rules.{ageFactor, zoneFactor};
 ghost use Rattle.locomotives.specs.Parts.{hourlyOf};
-use super::fields::MODES;
 use super::rule::SUBSTANCES;
+use locomotive_fields::MODES;
 
 // How many rates a model has: CO, NO2 and soot, each in the five modes.
 pub(crate) const RATES: usize = SUBSTANCES * MODES;

@@ -6,7 +6,7 @@ use super::numbers::is_at;
 use super::numbers::u8_at;
 use super::numbers::u16_at;
 use super::numbers::u32_at;
-use locomotives::Locomotive;
+use locomotive_fields::Locomotive;
 use store_records::Aspiration;
 use store_records::Bulk;
 use store_records::Handling;

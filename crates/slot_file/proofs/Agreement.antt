@@ -12,7 +12,7 @@ use Rattle.sums.specs.Fraction.{Frac, _over_, whole, _⊙_, _≈_, partsOf}
 use Rattle.sums.specs.Figures.{nearest, tonneParts, gramParts}
 use Rattle.sums.proofs.Figure.{nearest-same}
 use Rattle.sums.specs.Answer.{Contribution}
-use Rattle.locomotives.specs.declared.fields.Locomotive.{Locomotive}
+use Rattle.locomotive_fields.specs.declared.fields.Locomotive.{Locomotive}
 use Rattle.slots.specs.declared.store.StoreRecord.{StoreRecord}
 use Rattle.slot_file.specs.Questions.{accepted}
 use Rattle.slot_file.specs.Walk.{outcome}

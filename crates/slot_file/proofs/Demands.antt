@@ -21,9 +21,9 @@ use Rattle.stores.proofs.Exactly.{handling-emitted, handling-exactly, standing-
 use Rattle.vehicle_fields.specs.Fields.{pollutantCount, noCoefficients}
 use Rattle.vehicles.specs.Rules.{petrolCodes, dieselCodes, pollutantCode, emissionCount, emissionOf, emissionsOf, groupAnswer}
 use Rattle.vehicles.proofs.Bounds.{group-exactly}
-use Rattle.locomotives.specs.Fields.{locomotiveInRange, sharesAddUp}
+use Rattle.locomotive_fields.specs.Fields.{locomotiveInRange, sharesAddUp}
+use Rattle.locomotive_fields.specs.declared.fields.Locomotive.{Locomotive}
 use Rattle.locomotives.specs.Rules.{locomotiveCodes, substanceCount, locomotiveContribution, locomotiveEmissions, locomotiveAnswer}
-use Rattle.locomotives.specs.declared.fields.Locomotive.{Locomotive}
 use Rattle.locomotives.proofs.Bounds.{locomotive-exactly}
 use Rattle.slots.specs.Bytes.{slotOf}
 use Rattle.slots.specs.Layout.{coefficientsOf, coefficientsRead}

@@ -12,7 +12,7 @@ use Rattle.store_records.specs.Fields.{handlingInRange, standingInRange, aspira
 use Rattle.vehicle_fields.specs.Fields.{pollutantCount, noCoefficients, groupInRange, coefficientsInRange, allInRange, inRange}
 use Rattle.vehicle_fields.specs.SootAndLead.{zeroWhereDue}
 use Rattle.vehicles.specs.Rules.{emissionsOf, groupAnswer}
-use Rattle.locomotives.specs.Fields.{locomotiveInRange, sharesAddUp}
+use Rattle.locomotive_fields.specs.Fields.{locomotiveInRange, sharesAddUp}
 use Rattle.locomotives.specs.Rules.{locomotiveEmissions, locomotiveAnswer}
 use Rattle.slots.specs.Bytes.{byteAt, zeroFrom, slotOf}
 use Rattle.slots.specs.Layout.{groupOf, groupGood, groupRead, coefficientsOf, coefficientsGood, coefficientsRead, handlingOf, handlingGood, standingOf, standingGood, aspirationOf, aspirationGood, byKind, storeOf, storeGood, readBy, readStore, locomotiveOf, locomotiveGoodTests, locomotiveGood, locomotiveRead}

@@ -10,7 +10,7 @@ use Rattle.vehicle_fields.specs.declared.units.PerMinute.{PerMinute}
 use Rattle.vehicle_fields.specs.declared.units.PerKilometre.{PerKilometre}
 use Rattle.vehicle_fields.specs.declared.group.Group.{Group}
 use Rattle.vehicle_fields.specs.declared.group.Coefficients.{Coefficients}
-use Rattle.locomotives.specs.declared.fields.Locomotive.{Locomotive}
+use Rattle.locomotive_fields.specs.declared.fields.Locomotive.{Locomotive}
 use Rattle.slots.specs.Layout.{storeFields}
 use Rattle.slots.specs.declared.store.StoreRecord.{StoreRecord}
 use Rattle.slot_file.specs.Sources.{VehicleGroup, Inventory}

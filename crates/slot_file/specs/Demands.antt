@@ -16,9 +16,9 @@ use Rattle.sums.specs.declared.answer.Verdict.{Verdict}
 use Rattle.vehicle_fields.specs.Fields.{pollutantCount, noCoefficients}
 use Rattle.vehicles.specs.Rules.{emissionCount, contributionOf, groupAnswer}
 use Rattle.stores.specs.Rules.{handlingContribution, standingContribution, aspirationContribution, handlingAnswer, standingAnswer, aspirationAnswer}
-use Rattle.locomotives.specs.Fields.{sharesAddUp}
+use Rattle.locomotive_fields.specs.Fields.{sharesAddUp}
+use Rattle.locomotive_fields.specs.declared.fields.Locomotive.{Locomotive}
 use Rattle.locomotives.specs.Rules.{substanceCount, locomotiveContribution, locomotiveAnswer}
-use Rattle.locomotives.specs.declared.fields.Locomotive.{Locomotive}
 use Rattle.slots.specs.Bytes.{slotOf}
 use Rattle.slots.specs.Layout.{coefficientsOf, coefficientsRead}
 use Rattle.slots.specs.declared.store.StoreRecord.{StoreRecord}

@@ -12,8 +12,8 @@ use Rattle.sums.specs.Answer.{Contribution}
 use Rattle.vehicle_fields.specs.Fields.{noCoefficients}
 use Rattle.vehicles.specs.Rules.{emissionCount, contributionOf}
 use Rattle.stores.specs.Rules.{handlingContribution, standingContribution, aspirationContribution}
+use Rattle.locomotive_fields.specs.declared.fields.Locomotive.{Locomotive}
 use Rattle.locomotives.specs.Rules.{substanceCount, locomotiveContribution}
-use Rattle.locomotives.specs.declared.fields.Locomotive.{Locomotive}
 use Rattle.slots.specs.declared.store.StoreRecord.{StoreRecord}
 use Rattle.slots.specs.declared.store.StoreRecord.the-variants.{Handling, Standing, Aspiration}
 use Rattle.slot_file.specs.declared.Counts.{Counts}

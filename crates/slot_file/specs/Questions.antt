@@ -7,7 +7,7 @@ use lib.ListN.{length}
 use Rattle.sums.specs.Choice.{if_then_else}
 use Rattle.vehicle_fields.specs.Fields.{pollutantCount, temperaturesInRange}
 use Rattle.vehicle_fields.specs.SootAndLead.{zeroWhereDue}
-use Rattle.locomotives.specs.Fields.{sharesAddUp}
+use Rattle.locomotive_fields.specs.Fields.{sharesAddUp}
 use Rattle.slots.specs.Bytes.{slotSize, slotOf}
 use Rattle.slots.specs.Layout.{groupOf, groupGood, groupKind, coefficientsOf, coefficientsGood, coefficientsKind, coefficientsRead, storeKind, storeGood, locomotiveOf, locomotiveKind, locomotiveGood}
 use Rattle.slots.specs.declared.header.Header.{Header}

@@ -1,4 +1,4 @@
--- 01, "Figures": "A source is a group or store record on its chain", and by 02, U1, a locomotive on its own. A source is a value with the fields that two alike sources share: all but the next index and
+-- 01, "Figures": "A source is a group or store record on its chain", and by 02, U1, a locomotive on its own chain. A source is a value with the fields that two alike sources share: all but the next index and
 -- the first coefficient slot, and of a group the seven coefficients for each of the six pollutants.
 use Prim.Native.Nat.{ℕ, zero, suc}
 use mathlib.Core.List.{List, map, reverse}
@@ -7,7 +7,7 @@ use Rattle.sums.specs.Choice.{listTo}
 use Rattle.vehicle_fields.specs.Fields.{pollutantCount}
 use Rattle.vehicle_fields.specs.declared.group.Group.{Group}
 use Rattle.vehicle_fields.specs.declared.group.Coefficients.{Coefficients}
-use Rattle.locomotives.specs.declared.fields.Locomotive.{Locomotive}
+use Rattle.locomotive_fields.specs.declared.fields.Locomotive.{Locomotive}
 use Rattle.slots.specs.Bytes.{slotOf}
 use Rattle.slots.specs.Layout.{headerOf, groupRead, coefficientsRead, storeOf, locomotiveRead}
 use Rattle.slots.specs.declared.header.Header.{Header}

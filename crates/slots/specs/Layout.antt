@@ -16,8 +16,8 @@ use Rattle.store_records.specs.declared.records.Bulk.{Bulk}
 use Rattle.store_records.specs.declared.records.Handling as handling
 use Rattle.store_records.specs.declared.records.Standing as standing
 use Rattle.store_records.specs.declared.records.Aspiration as aspiration
-use Rattle.locomotives.specs.Fields.{modeCount, locomotiveInRange}
-use Rattle.locomotives.specs.declared.fields.Locomotive.{Locomotive}
+use Rattle.locomotive_fields.specs.Fields.{modeCount, locomotiveInRange}
+use Rattle.locomotive_fields.specs.declared.fields.Locomotive.{Locomotive}
 use Rattle.slots.specs.Bytes.{byteAt, u16At, u32At, i16At, zeroFrom, numberOf}
 use Rattle.slots.specs.declared.header.Header.{Header}
 use Rattle.slots.specs.declared.group.GroupRead.{GroupRead}

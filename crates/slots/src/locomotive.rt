@@ -5,8 +5,8 @@ ghost use Rattle.slots.specs.Bytes.{slotSize, slotOf};
 ghost use Rattle.slots.specs.Layout.{sharesOf, locomotiveOf, locomotiveGood, locomotiveRead};
 use super::numbers;
 use super::slot;
-use locomotives::Locomotive;
-use locomotives::MODES;
+use locomotive_fields::Locomotive;
+use locomotive_fields::MODES;
 
 // 0, or the number of the first of questions 8 and 9 that is answered no; the fields; the next index.
 pub struct LocomotiveRead {
@@ -45,7 +45,7 @@ fn locomotive_good(t: &[u8], l: Locomotive) -> bool
     requires { ⌜ length (now t) ≡ slotSize ⌝ }
     ensures { λ r. ⌜ r ≡ locomotiveGood (now (t .entry)) l ⌝ }
 {
-    locomotives::locomotive_in_range(l) & numbers::zero_from(t, 18, 46)
+    locomotive_fields::locomotive_in_range(l) & numbers::zero_from(t, 18, 46)
 }
 
 // What slot n of a file holds as a locomotive.

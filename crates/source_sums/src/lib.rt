@@ -3,7 +3,7 @@ ghost use mathlib.Core.Path.{_≡_};
 ghost use Rattle.vehicles.specs.Rules.{groupAnswer};
 ghost use Rattle.locomotives.specs.Rules.{locomotiveAnswer};
 ghost use Rattle.source_sums.specs.Added.{plusGroup, recordEmission, storeEmission, plusStore, plusLocomotive};
-use locomotives::Locomotive;
+use locomotive_fields::Locomotive;
 use slots::StoreRead;
 use slots::StoreRecord;
 use sums::Emission;

@@ -5,7 +5,7 @@ use Rattle.sums.specs.Choice.{if_then_else, allTo, sumTo, listTo}
 use Rattle.vehicle_fields.specs.Fields.{temperaturesInRange, distancesInRange, daysInRange, groupInRange, coefficientsInRange}
 use Rattle.vehicle_fields.specs.SootAndLead.{allZero, zeroWhereDue}
 use Rattle.store_records.specs.Fields.{bulkInRange, handlingInRange, aspirationInRange}
-use Rattle.locomotives.specs.Fields.{sharesInRange, locomotiveInRange, sharesAddUp}
+use Rattle.locomotive_fields.specs.Fields.{sharesInRange, locomotiveInRange, sharesAddUp}
 use Rattle.slots.specs.Bytes.{bytesFrom, slotOf, i16At, zeroFrom, numberOf}
 use Rattle.slots.specs.Layout.{temperaturesOf, headerOf, daysOf, distancesAt, groupOf, groupGood, groupRead, coefficientsOf, coefficientsGood, coefficientsRead, bulkOf, handlingOf, handlingGood, aspirationOf, aspirationGood, storeKind, byKind, storeOf, storeGood, sharesOf, locomotiveOf, locomotiveGood, locomotiveRead}
 use Rattle.slot_file.specs.Sources.{coefficientSlot, groupAt, storeAt, locomotiveAt, temperaturesAt, inventoryAt}

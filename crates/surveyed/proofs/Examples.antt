@@ -13,7 +13,7 @@ use Rattle.warmups.specs.Warmup.{tableMinutes, minutesAt, periodAt}
 use Rattle.vehicles.specs.Rules.{controlOf, runAndIdle, outGrams, inGrams, monthGrams, annualTonnes, peakGrams, pollutantCode}
 use Rattle.store_records.specs.Fields.{bulkInRange, handlingInRange, standingInRange, aspirationInRange}
 use Rattle.stores.specs.Rules.{k6Of, handlingPeak, standingPeak, bulkTonnes, aspirationPeak, aspirationTonnes}
-use Rattle.locomotives.specs.Fields.{sharesInRange, locomotiveInRange, sharesAddUp}
+use Rattle.locomotive_fields.specs.Fields.{sharesInRange, locomotiveInRange, sharesAddUp}
 use Rattle.locomotives.specs.Rules.{ageFactor, modeTonnes, locomotiveTonnes, greatestHourly, locomotivePeak}
 use Rattle.slots.specs.Bytes.{bytesFrom, slotOf, i16At, zeroFrom, numberOf}
 use Rattle.slots.specs.Layout.{temperaturesOf, headerOf, daysOf, distancesAt, groupOf, groupGood, groupRead, coefficientsOf, coefficientsGood, coefficientsRead, bulkOf, handlingOf, handlingGood, standingOf, standingGood, aspirationOf, aspirationGood, storeKind, byKind, storeOf, storeGood, readBy, readStore, sharesOf, locomotiveOf, locomotiveGood, locomotiveRead}

@@ -16,7 +16,7 @@ use Rattle.vehicle_fields.specs.declared.group.Group.{Group}
 use Rattle.vehicle_fields.specs.declared.group.Coefficients.{Coefficients}
 use Rattle.vehicles.specs.Rules.{groupRefusal}
 use Rattle.vehicles.specs.declared.rule.GroupAnswer.{GroupAnswer}
-use Rattle.locomotives.specs.declared.fields.Locomotive.{Locomotive}
+use Rattle.locomotive_fields.specs.declared.fields.Locomotive.{Locomotive}
 
 abbrev pub bulkOf : ℕ → ℕ → ℕ → ℕ → ℕ → ℕ → ℕ → ℕ → Bulk
 bulkOf dust store material wind moisture grain openness amount = record {

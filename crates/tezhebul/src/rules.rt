@@ -7,7 +7,7 @@ ghost use Rattle.answer_numbers.specs.Numbers.{storeNumbers, storeSize, locomot
 ghost use Rattle.tezhebul.specs.Fields.{handlingOf, standingOf, aspirationOf, groupOf, flagged, locomotiveOf};
 ghost use Rattle.tezhebul.specs.Memory.{GroupGiven};
 use super::fields;
-use locomotives::Locomotive;
+use locomotive_fields::Locomotive;
 use store_records::Aspiration;
 use store_records::Handling;
 use store_records::Standing;

@@ -17,9 +17,9 @@ use Rattle.stores.proofs.Bounds.{handling-bounded, standing-bounded, aspiration
 use Rattle.vehicle_fields.specs.Fields.{noCoefficients}
 use Rattle.vehicles.specs.Rules.{emissionCount, contributionOf}
 use Rattle.vehicles.proofs.Bounds.{group-bounded}
-use Rattle.locomotives.specs.Fields.{locomotiveInRange}
+use Rattle.locomotive_fields.specs.Fields.{locomotiveInRange}
+use Rattle.locomotive_fields.specs.declared.fields.Locomotive.{Locomotive}
 use Rattle.locomotives.specs.Rules.{substanceCount, locomotiveContribution}
-use Rattle.locomotives.specs.declared.fields.Locomotive.{Locomotive}
 use Rattle.locomotives.proofs.Bounds.{locomotive-bounded}
 use Rattle.slots.specs.declared.store.StoreRecord.{StoreRecord}
 use Rattle.slots.specs.declared.store.StoreRecord.the-variants.{Handling, Standing, Aspiration}

@@ -17,7 +17,7 @@ use Rattle.sums.proofs.Choices.{yes, listTo-same}
 use Rattle.sums.specs.Exactness.{annualMost, peakMost, sourcesMost, Bounded}
 use Rattle.sums.proofs.Exact.{figure-exact}
 use Rattle.sums.proofs.Figure.{nearest-same}
-use Rattle.locomotives.specs.declared.fields.Locomotive.{Locomotive}
+use Rattle.locomotive_fields.specs.declared.fields.Locomotive.{Locomotive}
 use Rattle.slots.specs.declared.store.StoreRecord.{StoreRecord}
 use Rattle.slot_file.specs.Sources.{VehicleGroup, groupAt, storeAt, locomotiveAt, temperaturesAt, Chains, inventoryAt}
 use Rattle.slot_file.specs.Meaning.{Accepts}

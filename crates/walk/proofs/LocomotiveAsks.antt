@@ -6,7 +6,7 @@ use mathlib.Core.List.{List}
 use lib.Dec.{ltb, lit<}
 use lib.ListN.{getD}
 use Rattle.sums.specs.declared.answer.Verdict.{Verdict}
-use Rattle.locomotives.specs.Fields.{sharesAddUp}
+use Rattle.locomotive_fields.specs.Fields.{sharesAddUp}
 use Rattle.slots.specs.Bytes.{slotOf}
 use Rattle.slots.specs.Layout.{locomotiveOf, locomotiveKind, locomotiveGood, locomotiveRead}
 use Rattle.slots.specs.declared.locomotive.LocomotiveRead.{LocomotiveRead}

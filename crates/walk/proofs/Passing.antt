@@ -14,8 +14,8 @@ use Rattle.stores.specs.Rules.{handlingContribution, standingContribution, aspi
 use Rattle.stores.proofs.Exactly.{handling-emitted, standing-emitted, aspiration-emitted}
 use Rattle.vehicle_fields.specs.Fields.{pollutantCount, noCoefficients}
 use Rattle.vehicles.specs.Rules.{emissionCount, contributionOf, emissionOf, emissionsOf, groupAnswer}
+use Rattle.locomotive_fields.specs.declared.fields.Locomotive.{Locomotive}
 use Rattle.locomotives.specs.Rules.{substanceCount, locomotiveContribution, locomotiveEmissions, locomotiveAnswer}
-use Rattle.locomotives.specs.declared.fields.Locomotive.{Locomotive}
 use Rattle.slots.specs.Bytes.{slotOf}
 use Rattle.slots.specs.Layout.{readStore}
 use Rattle.slots.specs.declared.store.StoreRecord.{StoreRecord}

@@ -7,7 +7,7 @@ ghost use Rattle.walk.specs.Steps.{LocomotiveStepped};
 ghost use Rattle.walk.specs.Walked.{LocomotivesBegin, LocomotivesWalked};
 use super::marks;
 use super::walked::Walked;
-use locomotives::Locomotive;
+use locomotive_fields::Locomotive;
 use slot_file::MOST_SLOTS;
 use slots::Header;
 use sums::Verdict;
@@ -35,7 +35,12 @@ fn step_locomotive(
     let locomotive = read.locomotive;
     let known = marks::marked(file, sources, k);
     let linked = questions::ask_link(file, known, holder, link, read.number);
-    let verdict = questions::ask(linked, locomotives::shares_add_up(locomotive), 14, link);
+    let verdict = questions::ask(
+        linked,
+        locomotive_fields::shares_add_up(locomotive),
+        14,
+        link,
+    );
     if verdict.number == 0 {
         sources[k] = true;
         reached[k] = true;

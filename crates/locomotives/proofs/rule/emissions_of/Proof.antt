@@ -7,10 +7,10 @@ use mathlib.Core.Bool.{true}
 use Rattle.sums.specs.Choice.{listTo}
 use Rattle.sums.specs.Answer.{emitted}
 use Rattle.sums.proofs.Fractions.{parts}
-use Rattle.locomotives.specs.Fields.{modeCount, locomotiveInRange}
+use Rattle.locomotive_fields.specs.Fields.{modeCount, locomotiveInRange}
+use Rattle.locomotive_fields.specs.declared.fields.Locomotive.{Locomotive}
 use Rattle.locomotives.specs.Rules.{substanceCount, locomotiveContribution, locomotiveEmissions}
 use Rattle.locomotives.specs.Parts.{meanParts, greatestParts, modesOf, hourParts, emissionParts}
-use Rattle.locomotives.specs.declared.fields.Locomotive.{Locomotive}
 use Rattle.locomotives.proofs.Paper.{locomotive-counted}
 use Rattle.locomotives.proofs.Bounds.{greatest-most, hour-most, mean-most}
 use Rattle.locomotives.proofs.rule.emissions_of.Statement.{statement}

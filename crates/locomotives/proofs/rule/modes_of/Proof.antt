@@ -3,7 +3,7 @@ use native.Mathlib.Omega.{arith}
 use mathlib.Core.Path.{_≡_, refl}
 use Prim.Native.Nat.{_≤_, _-_}
 use Rattle.sums.specs.Choice.{sumTo}
-use Rattle.locomotives.specs.Fields.{modeCount}
+use Rattle.locomotive_fields.specs.Fields.{modeCount}
 use Rattle.locomotives.specs.Parts.{meanParts, greatestParts, allModes}
 use Rattle.locomotives.proofs.Ranges.{ranged}
 use Rattle.locomotives.proofs.rule.modes_of.Statement.{statement}

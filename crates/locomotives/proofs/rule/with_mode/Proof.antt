@@ -1,7 +1,7 @@
 -- Each substance by its rate, or as it was.
 use Prim.Native.Nat.{_+_, _*_}
 use native.Mathlib.Omega.{arith}
-use Rattle.locomotives.specs.Fields.{modeCount}
+use Rattle.locomotive_fields.specs.Fields.{modeCount}
 use Rattle.locomotives.proofs.Modes.{hourly-at, bounds, with-share, without-share}
 use Rattle.locomotives.proofs.rule.with_mode.Statement.{statement}
 use Rattle.locomotives.proofs.rule.with_mode.Tie as tie

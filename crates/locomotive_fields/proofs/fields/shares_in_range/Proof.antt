@@ -2,9 +2,9 @@
 use native.Mathlib.Omega.{arith}
 use mathlib.Core.Path.{refl}
 use Rattle.sums.specs.Choice.{allTo}
-use Rattle.locomotives.specs.Fields.{sharesInRange}
-use Rattle.locomotives.proofs.fields.shares_in_range.Statement.{statement}
-use Rattle.locomotives.proofs.fields.shares_in_range.Tie as tie
+use Rattle.locomotive_fields.specs.Fields.{sharesInRange}
+use Rattle.locomotive_fields.proofs.fields.shares_in_range.Statement.{statement}
+use Rattle.locomotive_fields.proofs.fields.shares_in_range.Tie as tie
 
 pub shares-in-range-spec : {M : Type 1} → statement M
 unfolding sharesInRange allTo

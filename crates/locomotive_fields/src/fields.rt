@@ -1,7 +1,7 @@
 // The fields of a locomotive, whether each is in its range, and whether the shares are the whole of its time.
 ghost use mathlib.Core.Path.{_≡_};
 ghost use Prim.Native.Nat.{_<_};
-ghost use Rattle.locomotives.specs.Fields.{sharesInRange, locomotiveInRange, sharesAddUp};
+ghost use Rattle.locomotive_fields.specs.Fields.{sharesInRange, locomotiveInRange, sharesAddUp};
 
 // The modes of an engine: idle, a quarter, half and three quarters of its power, full power.
 pub const MODES: usize = 5;

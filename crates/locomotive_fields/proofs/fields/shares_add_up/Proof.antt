@@ -2,9 +2,9 @@
 use native.Mathlib.Nat.{zero-add}
 use native.Mathlib.Omega.{arith}
 use Rattle.sums.specs.Choice.{sumTo}
-use Rattle.locomotives.specs.Fields.{sharesAddUp}
-use Rattle.locomotives.proofs.fields.shares_add_up.Statement.{statement}
-use Rattle.locomotives.proofs.fields.shares_add_up.Tie as tie
+use Rattle.locomotive_fields.specs.Fields.{sharesAddUp}
+use Rattle.locomotive_fields.proofs.fields.shares_add_up.Statement.{statement}
+use Rattle.locomotive_fields.proofs.fields.shares_add_up.Tie as tie
 
 returns : tie.Need-returns
 unfolding sharesAddUp sumTo

@@ -5,7 +5,7 @@ use mathlib.Core.List.{List, [], _∷_}
 use lib.Dec.{leb, eqb}
 use lib.ListN.{getD}
 use Rattle.sums.specs.Choice.{allOf, allTo, sumTo}
-use Rattle.locomotives.specs.declared.fields.Locomotive.{Locomotive}
+use Rattle.locomotive_fields.specs.declared.fields.Locomotive.{Locomotive}
 
 -- "five 16-bit time shares ... idle to full power": one for each mode of the engine
 abbrev pub modeCount : ℕ
