@@ -20,7 +20,7 @@ use Rattle.locomotive_fields.specs.Fields.{sharesAddUp}
 use Rattle.locomotive_fields.specs.declared.fields.Locomotive.{Locomotive}
 use Rattle.locomotives.specs.Rules.{substanceCount, locomotiveContribution, locomotiveAnswer}
 use Rattle.slots.specs.Bytes.{slotOf}
-use Rattle.slots.specs.Layout.{coefficientsOf, coefficientsRead}
+use Rattle.slots.specs.Layout.{coefficientsOf, coefficientsRead, locomotiveOf, locomotiveGood}
 use Rattle.slots.specs.declared.store.StoreRecord.{StoreRecord}
 use Rattle.slots.specs.declared.store.StoreRecord.the-variants.{Handling, Standing, Aspiration}
 use Rattle.slot_file.specs.Sources.{coefficientSlot, VehicleGroup, groupAt, locomotiveAt, Chains, Inventory}
@@ -47,10 +47,13 @@ pub record Checked (s : List ℕ) (v : Verdict) : Type 0 where
   pub no-figures : (v .number ≡ 0 → ⊥) → answer s ≡ refusal (v .number) (v .slot)
   pub lowest : v .number ≡ 12 → (c : Chains) × Groups s c 0 × Stores s c 0 × Locomotives s c 0 × LowestUnreached s c (v .slot)
 
--- question 7 of a link k to a source: "Is the slot new on this walk as a group or store record?", "question 7 includes locomotives", and no other slots; and 14 of a
--- locomotive: "when a locomotive's shares don't total 1,000", at "the slot asked about"
+-- question 7 of a link k to a source: "Is the slot new on this walk as a group or store record?", "question 7 includes locomotives", and no other slots; 9 of a
+-- locomotive: "Is each field in range and every unnamed byte zero?"; and 14, "when a locomotive's shares don't total 1,000 ... after its 9", at "the slot asked about"
 abbrev pub seven : Chains → ℕ → Question
 seven c k = question (not (member k (c .locomotives ++ (c .stores ++ c .groups)))) 7 k
+
+abbrev pub nine : List ℕ → ℕ → Question
+nine s k = question (locomotiveGood (slotOf s k) (locomotiveOf (slotOf s k))) 9 k
 
 abbrev pub fourteen : List ℕ → ℕ → Question
 fourteen s k = question (sharesAddUp (locomotiveAt s k)) 14 k

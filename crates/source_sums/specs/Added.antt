@@ -1,4 +1,5 @@
--- What inner functions answer: the numbers of the lent memory after a source is added, where sums are wanted. Nothing here has to be believed.
+-- What the functions of this crate promise: the numbers of the lent memory after a source is added, where sums are wanted. Nothing here has to be believed: the walk's
+-- proofs join it to the definitions.
 use Prim.Native.Nat.{ℕ}
 use mathlib.Core.Bool.{Bool}
 use mathlib.Core.List.{List}

@@ -11,7 +11,7 @@ use vehicle_fields::Coefficients;
 use vehicle_fields::Group;
 use vehicle_fields::POLLUTANTS;
 
-// A group with its own coefficients.
+// A group with its own coefficients, the `VehicleGroup` of the definitions. One value, so that a walk which only checks copies neither.
 pub struct GroupSource {
     pub group: Group,
     pub coefficients: [Coefficients; POLLUTANTS],

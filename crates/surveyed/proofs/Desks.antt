@@ -1,5 +1,6 @@
--- The letter's two desks: pairs of different files that are accepted and alike. Computed, from the definitions as a whole. Assumes nothing.
-use mathlib.Core.Path.{_≡_, refl}
+-- The letter's two desks: two pairs of different files that are accepted and alike, one with groups and one of locomotives alone (one of store records is computed in
+-- `slot_file`). Computed, from the definitions as a whole. Assumes nothing.
+use mathlib.Core.Path.{refl}
 use mathlib.Core.List.{flatMap}
 use Rattle.sums.specs.Choice.{if_then_else, allTo, sumTo, listTo}
 use Rattle.vehicle_fields.specs.Fields.{temperaturesInRange, distancesInRange, daysInRange, groupInRange, coefficientsInRange}
@@ -12,12 +13,11 @@ use Rattle.slot_file.specs.Sources.{coefficientSlot, groupAt, storeAt, locomoti
 use Rattle.slot_file.specs.Questions.{headAsks, member, linkAsks, coefficientHolder, coefficientAsks, rowsAsks, closingAsks, coefficientSlots, reachedBy, groupAsks, storeAsks, locomotiveAsks, reachAsks, lastAsks}
 use Rattle.slot_file.specs.Walk.{first, chain, locomotiveWalk, storeWalk, groupWalk, outcome}
 use Rattle.slot_file.specs.Alike.{sameList, sameCoefficients, sameGroup, sameStore, sameLocomotive}
-use Rattle.slot_file.specs.Surveyed.{TwoDesks, TwoStores, TwoEngines}
+use Rattle.slot_file.specs.Surveyed.{TwoDesks, TwoEngines}
 
-pub two-desks : TwoDesks × TwoStores × TwoEngines
+pub two-desks : TwoDesks × TwoEngines
 unfolding flatMap sameList sameCoefficients sameGroup sameStore sameLocomotive if_then_else allTo sumTo listTo temperaturesInRange distancesInRange daysInRange groupInRange coefficientsInRange allZero zeroWhereDue bulkInRange handlingInRange aspirationInRange sharesInRange locomotiveInRange sharesAddUp bytesFrom slotOf i16At zeroFrom numberOf temperaturesOf headerOf daysOf distancesAt groupOf groupGood groupRead coefficientsOf coefficientsGood coefficientsRead bulkOf handlingOf handlingGood aspirationOf aspirationGood storeKind byKind storeOf storeGood sharesOf locomotiveOf locomotiveGood locomotiveRead coefficientSlot groupAt storeAt locomotiveAt temperaturesAt inventoryAt headAsks member linkAsks coefficientHolder coefficientAsks rowsAsks closingAsks coefficientSlots reachedBy groupAsks storeAsks locomotiveAsks reachAsks lastAsks first chain locomotiveWalk storeWalk groupWalk outcome
 two-desks = (
-  record { ours = refl; theirs = refl; alike = record { temperatures = refl; groups = refl; stores = refl; locomotives = refl } },
   record { ours = refl; theirs = refl; alike = record { temperatures = refl; groups = refl; stores = refl; locomotives = refl } },
   record { ours = refl; theirs = refl; alike = record { temperatures = refl; groups = refl; stores = refl; locomotives = refl } },
 )

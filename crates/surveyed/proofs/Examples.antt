@@ -32,8 +32,8 @@ computed = (refl, refl, refl, refl)
 pub as-surveyed : Right surveyed
 as-surveyed = computed .0
 
-pub as-worked : Right locomotives
-as-worked = computed .1
+pub as-by-hand : Right locomotives
+as-by-hand = computed .1
 
 pub as-refused : Right refusals
 as-refused = computed .2
