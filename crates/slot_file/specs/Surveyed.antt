@@ -290,7 +290,7 @@ refusals =
     ∷ no (head 8 1 0 (two 0) ++ group 0 0 2 ++ pollutants 1 0) "refused 11 1\n"
     ∷ []
 
--- ---- what the crate of the definitions computes of all this itself, beside B's answer in a lent buffer: two rows that take no time
+-- ---- what the crate of the definitions computes of all this itself, beside B's answer in a lent buffer and `TwoStores`: two rows that take no time
 unfoldable pub atOnce : List Row
 atOnce = fanOfH ∷ zeroAtRow ∷ []
 
