@@ -14,6 +14,7 @@ use Rattle.sums.specs.Figures.{tonneParts, gramParts}
 use Rattle.sums.proofs.Fractions.{≈-refl, ≈-⊙, ≈-⊞, ≈-over, parts}
 use Rattle.sums.specs.Exactness.{Counted}
 use Rattle.vehicle_fields.specs.Fields.{noCoefficients}
+use Rattle.vehicle_factors.specs.Factors.{standardFactors}
 use Rattle.vehicles.specs.Rules.{emissionCount}
 use Rattle.vehicles.proofs.Paper.{counted}
 use Rattle.stores.proofs.Paper.{handling-counted, standing-counted, aspiration-counted}
@@ -50,7 +51,7 @@ module _ {A : Type 0} (P : A → Type 0) where
 
 group-units : (ts : List ℤ) (v : VehicleGroup) → Each Units (groupContributions ts v)
 unfolding groupContributions
-group-units ts v = each-listTo Units emissionCount _ (λ (p : ℕ). units _ (counted (v .group) ts (getD (v .coefficients) p noCoefficients) p))
+group-units ts v = each-listTo Units emissionCount _ (λ (p : ℕ). units _ (counted standardFactors (v .group) ts (getD (v .coefficients) p noCoefficients) p))
 
 store-units : (r : StoreRecord) → Each Units (storeContributions r)
 unfolding storeContributions

@@ -8,7 +8,8 @@ use lib.IntN.{pos}
 use lib.ListN.{getD, length, replicate}
 use Prim.Native.String.{String}
 use Rattle.sums.specs.Choice.{if_then_else}
-use Rattle.sums.specs.Fraction.{Frac, _over_, whole}
+use Rattle.sums.specs.Fraction.{Frac, _over_}
+use Rattle.vehicle_factors.specs.Factors.{standardFactors}
 use Rattle.warmups.specs.Warmup.{minutesAt}
 use Rattle.slot_file.specs.declared.Answer.{Answer}
 use Rattle.slot_file.specs.Sources.{VehicleGroup, temperaturesAt, Chains, inventoryAt}
@@ -89,7 +90,7 @@ abbrev given : List ℕ → List Frac → List ℕ → Row
 given f m t = record { file = f; minutes = m; prints = t }
 
 abbrev warmups : List ℕ → Outcome → List Frac
-warmups s (accepted c) = map (λ (v : VehicleGroup). minutesAt (v .group) (getD (temperaturesAt s) 0 (pos 0))) (inventoryAt s c .groups)
+warmups s (accepted c) = map (λ (v : VehicleGroup). minutesAt standardFactors (v .group) (getD (temperaturesAt s) 0 (pos 0))) (inventoryAt s c .groups)
 warmups s (refused n k) = []
 
 -- what the definitions make of a row's file: a table is right where this is the table itself
@@ -122,9 +123,9 @@ dust bytes figures = given (one bytes) [] (sheet (only 2908 figures) 0 1 0)
 abbrev below : ℕ → List ℕ
 below n = two (65536 - n)
 
--- B's yard with flags at a temperature, its minutes, and its line
-abbrev car : ℕ → List ℕ → Frac → String → Row
-car flags t m figures = given (yard flags t) (m ∷ []) (sheet (only 337 figures) 1 0 0)
+-- B's yard with flags at a temperature, its minutes in tenths, and its line
+abbrev car : ℕ → List ℕ → ℕ → String → Row
+car flags t m figures = given (yard flags t) (m over 10 ∷ []) (sheet (only 337 figures) 1 0 0)
 
 abbrev pub fileOfB : List ℕ
 fileOfB = yard 0 (two 100)
@@ -137,9 +138,9 @@ fanOfH = dust (store 0 5 2 (air 500 2000 9500 1000)) " 0.180000 0.0500000"
 unfoldable pub yards : List Row
 yards =
     given (head 1 0 0 (two 0)) [] (sheet (only 0 "") 0 0 0)  -- A
-    ∷ given fileOfB (whole 3 ∷ []) (text listingOfB)  -- B
-    ∷ car 1 (two 100) (whole 3) " 0.020160 0.0146667"  -- C, with control
-    ∷ car 2 (two 100) (15 over 10) " 0.016800 0.0111111"  -- D, heated
+    ∷ given fileOfB (30 over 10 ∷ []) (text listingOfB)  -- B
+    ∷ car 1 (two 100) 30 " 0.020160 0.0146667"  -- C, with control
+    ∷ car 2 (two 100) 15 " 0.016800 0.0111111"  -- D, heated
     ∷ []
 
 -- E to J
@@ -157,15 +158,15 @@ records =
     ∷ dust (store 0 4 2 (bulk 6 20 110 501 7 0 100 4)) " 0.000001 0.0000000"  -- J, 4 m²
     ∷ []
 
--- K: "5.1 → 3, 5.0 → 4, -5.0 → 4, -5.1 → 10, -10.0 → 10, -10.1 → 15"
+-- K: "5.1 → 3, 5.0 → 4, -5.0 → 4, -5.1 → 10, -10.0 → 10, -10.1 → 15", in tenths of a minute
 unfoldable pub bands : List Row
 bands =
-    car 0 (two 51) (whole 3) " 0.024000 0.0177778"
-    ∷ car 0 (two 50) (whole 4) " 0.028800 0.0222222"
-    ∷ car 0 (below 50) (whole 4) " 0.028800 0.0222222"
-    ∷ car 0 (below 51) (whole 10) " 0.057600 0.0488889"
-    ∷ car 0 (below 100) (whole 10) " 0.057600 0.0488889"
-    ∷ car 0 (below 101) (whole 15) " 0.081600 0.0711111"
+    car 0 (two 51) 30 " 0.024000 0.0177778"
+    ∷ car 0 (two 50) 40 " 0.028800 0.0222222"
+    ∷ car 0 (below 50) 40 " 0.028800 0.0222222"
+    ∷ car 0 (below 51) 100 " 0.057600 0.0488889"
+    ∷ car 0 (below 100) 100 " 0.057600 0.0488889"
+    ∷ car 0 (below 101) 150 " 0.081600 0.0711111"
     ∷ []
 
 -- THE TABLE of the starred rows, A to K

@@ -3,14 +3,15 @@
 use mathlib.Core.Path.{_≡_, refl, subst⁻¹}
 use mathlib.Core.List.{flatMap}
 use Rattle.sums.specs.Choice.{if_then_else, allTo, sumTo, listTo}
-use Rattle.sums.specs.Fraction.{totalTo}
+use Rattle.sums.specs.Fraction.{totalTo, partsOf}
 use Rattle.sums.specs.Figures.{nearest}
 use Rattle.sums.specs.Table.{upTo}
 use Rattle.vehicle_fields.specs.Fields.{temperaturesInRange, distancesInRange, daysInRange, groupInRange, coefficientsInRange}
 use Rattle.vehicle_fields.specs.SootAndLead.{allZero, zeroWhereDue}
 use Rattle.warmups.specs.Temperatures.{below, place, lowerOf, lowestTo}
-use Rattle.warmups.specs.Warmup.{tableMinutes, minutesAt, periodAt}
-use Rattle.vehicles.specs.Rules.{controlOf, runAndIdle, outGrams, inGrams, monthGrams, annualTonnes, peakGrams, pollutantCode}
+use Rattle.vehicle_factors.specs.Factors.{standardFactors}
+use Rattle.warmups.specs.Warmup.{timesOf, tenthsIn, minutesAt, periodAt}
+use Rattle.vehicles.specs.Rules.{percentOf, runAndIdle, outGrams, inGrams, monthGrams, annualTonnes, peakGrams, pollutantCode}
 use Rattle.store_records.specs.Fields.{bulkInRange, handlingInRange, standingInRange, aspirationInRange}
 use Rattle.stores.specs.Rules.{k6Of, handlingPeak, standingPeak, bulkTonnes, aspirationPeak, aspirationTonnes}
 use Rattle.locomotive_fields.specs.Fields.{sharesInRange, locomotiveInRange, sharesAddUp}
@@ -26,7 +27,7 @@ use Rattle.slot_file.specs.Surveyed.{Right, yards, records, bands, surveyed, lo
 use Rattle.slot_file.proofs.Examples.{as-examples}
 
 computed : Right surveyed × Right locomotives × Right refusals × (answer fileOfB ≡ answerOfB)
-unfolding yards records bands locomotives refusals answerOfB flatMap if_then_else allTo listTo totalTo nearest upTo temperaturesInRange distancesInRange daysInRange groupInRange coefficientsInRange allZero below place tableMinutes minutesAt periodAt controlOf runAndIdle outGrams inGrams monthGrams annualTonnes peakGrams lowerOf lowestTo pollutantCode zeroWhereDue bulkInRange handlingInRange standingInRange aspirationInRange k6Of handlingPeak standingPeak bulkTonnes aspirationPeak aspirationTonnes sharesInRange locomotiveInRange sumTo sharesAddUp ageFactor modeTonnes locomotiveTonnes greatestHourly locomotivePeak bytesFrom slotOf i16At zeroFrom numberOf temperaturesOf headerOf daysOf distancesAt groupOf groupGood groupRead coefficientsOf coefficientsGood coefficientsRead bulkOf handlingOf handlingGood standingOf standingGood aspirationOf aspirationGood storeKind byKind storeOf storeGood readBy readStore sharesOf locomotiveOf locomotiveGood locomotiveRead coefficientSlot groupAt storeAt locomotiveAt temperaturesAt inventoryAt headAsks member linkAsks coefficientHolder coefficientAsks rowsAsks closingAsks coefficientSlots reachedBy groupAsks storeAsks locomotiveAsks reachAsks lastAsks first chain locomotiveWalk storeWalk groupWalk outcome groupContributions storeContributions locomotiveContributions gathered contributions exactSum annualFigure peakFigure summed answered answer text digits padded fixed line lines listing listed refusalLine printed
+unfolding yards records bands locomotives refusals answerOfB flatMap if_then_else allTo listTo totalTo nearest upTo temperaturesInRange distancesInRange daysInRange groupInRange coefficientsInRange allZero below place standardFactors partsOf timesOf tenthsIn minutesAt periodAt percentOf runAndIdle outGrams inGrams monthGrams annualTonnes peakGrams lowerOf lowestTo pollutantCode zeroWhereDue bulkInRange handlingInRange standingInRange aspirationInRange k6Of handlingPeak standingPeak bulkTonnes aspirationPeak aspirationTonnes sharesInRange locomotiveInRange sumTo sharesAddUp ageFactor modeTonnes locomotiveTonnes greatestHourly locomotivePeak bytesFrom slotOf i16At zeroFrom numberOf temperaturesOf headerOf daysOf distancesAt groupOf groupGood groupRead coefficientsOf coefficientsGood coefficientsRead bulkOf handlingOf handlingGood standingOf standingGood aspirationOf aspirationGood storeKind byKind storeOf storeGood readBy readStore sharesOf locomotiveOf locomotiveGood locomotiveRead coefficientSlot groupAt storeAt locomotiveAt temperaturesAt inventoryAt headAsks member linkAsks coefficientHolder coefficientAsks rowsAsks closingAsks coefficientSlots reachedBy groupAsks storeAsks locomotiveAsks reachAsks lastAsks first chain locomotiveWalk storeWalk groupWalk outcome groupContributions storeContributions locomotiveContributions gathered contributions exactSum annualFigure peakFigure summed answered answer text digits padded fixed line lines listing listed refusalLine printed
 computed = (refl, refl, refl, refl)
 
 pub as-surveyed : Right surveyed

@@ -71,6 +71,10 @@ coefficientsInRange k = allOf (map (λ (n : ℕ). leb n 1000000) (seven k))
 unfoldable pub allInRange : List Coefficients → Bool
 allInRange ks = allTo pollutantCount (λ (p : ℕ). coefficientsInRange (getD ks p noCoefficients))
 
+-- a group with its coefficients
+unfoldable pub sourceInRange : Group → List Coefficients → Bool
+sourceInRange g ks = groupInRange g && allInRange ks
+
 -- "given a value outside its field's range such a rule answers 9"
 unfoldable pub inRange : Group → List ℤ → List Coefficients → Bool
 inRange g ts ks = allOf (groupInRange g ∷ temperaturesInRange ts ∷ allInRange ks ∷ [])

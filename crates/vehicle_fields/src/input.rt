@@ -1,18 +1,17 @@
-// What the rule of vehicle groups asks of its whole input, before it works anything out.
+// What the rule of vehicle groups asks of a group and its coefficients, before it works anything out.
 ghost use mathlib.Core.Path.{_≡_};
-ghost use Rattle.vehicle_fields.specs.Fields.{inRange};
+ghost use Rattle.vehicle_fields.specs.Fields.{sourceInRange};
 ghost use Rattle.vehicle_fields.specs.SootAndLead.{zeroWhereDue};
 use super::group;
 use super::group::Coefficients;
 use super::group::Group;
 use super::group::POLLUTANTS;
-use super::temperature;
 
-// A group, the months' temperatures, and the coefficients of each pollutant.
-pub fn in_range(g: Group, ts: [i16; 12], ks: [Coefficients; POLLUTANTS]) -> bool
-    ensures { λ r. ⌜ r ≡ inRange g ts ks ⌝ }
+// A group, and the coefficients of each pollutant.
+pub fn source_in_range(g: Group, ks: [Coefficients; POLLUTANTS]) -> bool
+    ensures { λ r. ⌜ r ≡ sourceInRange g ks ⌝ }
 {
-    group::group_in_range(g) & temperature::temperatures_in_range(ts) & group::all_in_range(ks)
+    group::group_in_range(g) & group::all_in_range(ks)
 }
 
 // Whether the soot of a petrol group, and the lead of a diesel one, are zero throughout.

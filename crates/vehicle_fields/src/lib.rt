@@ -11,7 +11,7 @@ pub use group::Neutraliser;
 pub use group::POLLUTANTS;
 pub use group::coefficients_in_range;
 pub use group::group_in_range;
-pub use input::in_range;
+pub use input::source_in_range;
 pub use input::zero_where_due;
 pub use temperature::temperatures_in_range;
 pub use units::Metres;

@@ -3,34 +3,34 @@
 use Prim.Native.Nat.{ℕ, _+_, _*_, _<_, _≤_}
 use native.Mathlib.Nat.{le-refl, add-le-add}
 use native.Mathlib.Omega.{arith}
-use mathlib.Core.Path.{_≡_}
+use mathlib.Core.Path.{_≡_, sym, _∙_}
 use mathlib.Core.Bool.{true}
 use mathlib.Core.List.{List}
 use lib.Dec.{lit<}
 use lib.IntN.{ℤ}
 use lib.ListN.{getD}
 use Rattle.sums.specs.Choice.{if_then_else}
-use Rattle.sums.specs.Fraction.{partsOf}
-use Rattle.sums.specs.Answer.{noEmission}
-use Rattle.sums.proofs.Choices.{listTo-at}
+use Rattle.sums.specs.Answer.{emitted, noEmission}
+use Rattle.sums.proofs.Choices.{right, listTo-at}
 use Rattle.sums.proofs.Products.{_⊗_}
 use Rattle.sums.specs.Exactness.{Bounded, Exactly}
 use Rattle.sums.proofs.Sources.{bounded, exactly}
-use Rattle.vehicle_fields.specs.Fields.{groupInRange, coefficientsInRange, noCoefficients, inRange}
+use Rattle.vehicle_fields.specs.Fields.{temperaturesInRange, groupInRange, coefficientsInRange, noCoefficients, sourceInRange, inRange}
 use Rattle.vehicle_fields.specs.SootAndLead.{zeroWhereDue}
 use Rattle.vehicle_fields.specs.declared.group.Group.{Group}
 use Rattle.vehicle_fields.specs.declared.group.Neutraliser.{Neutraliser}
 use Rattle.vehicle_fields.specs.declared.group.Coefficients.{Coefficients}
-use Rattle.warmups.specs.Temperatures.{lowestOf}
-use Rattle.warmups.specs.Warmup.{conditionsAt}
-use Rattle.warmups.specs.Parts.{ConditionsInRange}
+use Rattle.vehicle_factors.specs.Factors.{standardFactors, factorsInRange}
+use Rattle.vehicle_factors.specs.declared.Factors.{Factors}
+use Rattle.vehicle_factors.proofs.Standard.{standard-in-range}
+use Rattle.warmups.specs.Parts.{climateOf, conditionsIn, ConditionsInRange}
 use Rattle.warmups.specs.declared.warmup.Conditions.{Conditions}
-use Rattle.warmups.proofs.Scales.{conditions-in-range}
-use Rattle.vehicles.specs.Rules.{controlOf, annualTonnes, peakGrams, contributionOf, emissionOf, emissionCount, emissionsOf, groupAnswer}
+use Rattle.warmups.proofs.Conditions.{conditions-in-range}
+use Rattle.vehicles.specs.Rules.{percentOf, contributionBy, contributionOf, emissionOf, emissionCount, emissionsOf, groupAnswer}
 use Rattle.vehicles.specs.Parts.{activityOf, ActivityInRange, NeutraliserInRange, massParts, outParts, yearParts}
 use Rattle.vehicles.specs.declared.activity.Activity.{Activity}
-use Rattle.vehicles.proofs.Ranges.{ranged, twice, warmup, run, idle, of-six, all-in-range}
-use Rattle.vehicles.proofs.Scales.{control}
+use Rattle.vehicles.proofs.Ranges.{ranged, twice, warmup, run, idle, of-six, source-in-range, in-range-is}
+use Rattle.vehicles.proofs.Scales.{control-most}
 use Rattle.vehicles.proofs.Periods.{warmup-parts, run-parts, idle-parts, activity-in-range}
 use Rattle.vehicles.proofs.Paper.{counted}
 
@@ -51,27 +51,26 @@ module _ (g : Group) (k : Coefficients) (c : ℕ) (hg : groupInRange g ≡ true)
   unfolding yearParts
   year-most a h = mass-most (ranged g hg .neutraliser) hc (warmup-parts k a hk h) (run-parts k a hk h) (idle-parts k a hk h)
 
-module _ (g : Group) (ts : List ℤ) (k : Coefficients) (hg : groupInRange g ≡ true) (hk : coefficientsInRange k ≡ true) (p : ℕ) where
-  pub group-bounded : Bounded emissionCount (annualTonnes g ts k (controlOf g p)) (peakGrams g k (controlOf g p) (lowestOf ts))
+module _ (f : Factors) (hf : factorsInRange f ≡ true) (g : Group) (ts : List ℤ) (k : Coefficients) (hg : groupInRange g ≡ true) (hk : coefficientsInRange k ≡ true) (p : ℕ) where
+  pub group-bounded : Bounded emissionCount (contributionBy f g ts k p .tonnes) (contributionBy f g ts k p .rate)
   group-bounded =
-      let c = partsOf 100 (controlOf g p) in
+      let y = percentOf f g p in
+      let c = climateOf ts in
       let r = ranged g hg in
-      let a : yearParts g k c (activityOf g ts) * g .share * g .vehicles ≤ 8928000000000000000000 =
-      year-most g k c hg hk (control g p .most) (activityOf g ts) (activity-in-range g hg ts) ⊗ r .share ⊗ r .vehicles in
-      let b : outParts g k c (conditionsAt g (lowestOf ts)) * g .leaving ≤ 150000000000000000 =
-      out-most g k c hg hk (control g p .most) (conditionsAt g (lowestOf ts)) (conditions-in-range g (lowestOf ts)) ⊗ r .leaving in
-      bounded emissionCount (counted g ts k p) (omega arith) (omega arith)
+      let a : yearParts g k y (activityOf f g (c .bands)) * g .share * g .vehicles ≤ 8928000000000000000000 =
+      year-most g k y hg hk (control-most f hf g p) (activityOf f g (c .bands)) (activity-in-range g hg f hf (c .bands)) ⊗ r .share ⊗ r .vehicles in
+      let b : outParts g k y (conditionsIn f g (c .coldest)) * g .leaving ≤ 150000000000000000 =
+      out-most g k y hg hk (control-most f hf g p) (conditionsIn f g (c .coldest)) (conditions-in-range f hf g (c .coldest)) ⊗ r .leaving in
+      bounded emissionCount (counted f g ts k p) (omega arith) (omega arith)
 
-  emission-exactly : Exactly (emissionOf g ts k p) (annualTonnes g ts k (controlOf g p)) (peakGrams g k (controlOf g p) (lowestOf ts))
-  unfolding emissionOf
-  emission-exactly = exactly (contributionOf g ts k p) (lit< tt) (counted g ts k p) group-bounded
+  emission-exactly : Exactly (emitted (contributionBy f g ts k p)) (contributionBy f g ts k p .tonnes) (contributionBy f g ts k p .rate)
+  emission-exactly = exactly (contributionBy f g ts k p) (lit< tt) (counted f g ts k p) group-bounded
 
--- each emission of a group that is not refused
+-- each emission of a group that is not refused, by the standard factors
 pub group-exactly : (g : Group) (ts : List ℤ) (ks : List Coefficients) → inRange g ts ks ≡ true → zeroWhereDue g ks ≡ true → (p : ℕ) → p < emissionCount →
-    Exactly (getD (groupAnswer g ts ks .emissions) p noEmission) (annualTonnes g ts (getD ks p noCoefficients) (controlOf g p))
-    (peakGrams g (getD ks p noCoefficients) (controlOf g p) (lowestOf ts))
-unfolding groupAnswer emissionsOf if_then_else
+    Exactly (getD (groupAnswer g ts ks .emissions) p noEmission) (contributionOf g ts (getD ks p noCoefficients) p .tonnes) (contributionOf g ts (getD ks p noCoefficients) p .rate)
+unfolding groupAnswer emissionsOf emissionOf if_then_else
 group-exactly g ts ks h b p q =
-    let r = all-in-range g ts ks h in
+    let r = source-in-range g ks (right (temperaturesInRange ts) (sourceInRange g ks) (sym (in-range-is g ts ks) ∙ h)) in
     simp (h, b) (rw (listTo-at noEmission emissionCount (λ (m : ℕ). emissionOf g ts (getD ks m noCoefficients) m) p q)
-    (emission-exactly g ts (getD ks p noCoefficients) (r .0) (of-six ks (r .1) p q) p))
+    (emission-exactly standardFactors standard-in-range g ts (getD ks p noCoefficients) (r .0) (of-six ks (r .1) p q) p))

@@ -8,7 +8,6 @@ use mathlib.Core.Bool.{true}
 use mathlib.Core.List.{List}
 use borrow.Author.Tests.{eqb-true, eqb-false}
 use lib.Dec.{eqb, lit<}
-use lib.IntN.{ℤ, pos}
 use lib.ListN.{getD, set, length}
 use lib.Seq.{getD-set-same, getD-set-other}
 use Rattle.sums.specs.Choice.{if_then_else, sumTo, listTo}
@@ -17,37 +16,39 @@ use Rattle.sums.proofs.Products.{_⊗_}
 use Rattle.vehicle_fields.specs.Fields.{groupInRange, coefficientsInRange}
 use Rattle.vehicle_fields.specs.declared.group.Group.{Group}
 use Rattle.vehicle_fields.specs.declared.group.Coefficients.{Coefficients}
-use Rattle.warmups.proofs.Scales.{conditions-in-range}
+use Rattle.vehicle_factors.specs.Factors.{factorsInRange}
+use Rattle.vehicle_factors.specs.declared.Factors.{Factors}
+use Rattle.warmups.proofs.Conditions.{period-below, tenths-most}
 use Rattle.vehicles.specs.Parts.{inPeriod, dayRun, monthPeriod, monthWarmup, monthRun, monthIdle, activityOf, warmupParts, runParts, ActivityInRange}
 use Rattle.vehicles.specs.declared.activity.Activity.{Activity}
 use Rattle.vehicles.proofs.Ranges.{ranged, twice, days, three, warmup, run, idle}
 
-module _ (g : Group) (ts : List ℤ) (f : ℕ → ℕ) where
+module _ (g : Group) (bs : List ℕ) (f : ℕ → ℕ) where
   -- the totals of the periods in a list, with one month more, whose period is q
-  pub added : {A : Type 0} (d : A) (of : ℕ → A) (l : List A) (n q : ℕ) (v : A) → q ≡ monthPeriod g ts n → q < length l →
-      ((p : ℕ) → p < 3 → getD l p d ≡ of (inPeriod g ts f n p)) → v ≡ of (inPeriod g ts f n q + f n) →
-      (p : ℕ) → p < 3 → getD (set l q v) p d ≡ of (inPeriod g ts f (n + 1) p)
+  pub added : {A : Type 0} (d : A) (of : ℕ → A) (l : List A) (n q : ℕ) (v : A) → q ≡ monthPeriod g bs n → q < length l →
+      ((p : ℕ) → p < 3 → getD l p d ≡ of (inPeriod g bs f n p)) → v ≡ of (inPeriod g bs f n q + f n) →
+      (p : ℕ) → p < 3 → getD (set l q v) p d ≡ of (inPeriod g bs f (n + 1) p)
   unfolding inPeriod
   added d of l n q v r b h e p k =
-      rw (sumTo-step n (λ (m : ℕ). if_then_else (eqb p (monthPeriod g ts m)) (f m) 0), ← r)
-      (cases (λ (x : ℕ). getD (set l q v) p d ≡ of (inPeriod g ts f n p + x)) (eqb p q)
+      rw (sumTo-step n (λ (m : ℕ). if_then_else (eqb p (monthPeriod g bs m)) (f m) 0), ← r)
+      (cases (λ (x : ℕ). getD (set l q v) p d ≡ of (inPeriod g bs f n p + x)) (eqb p q)
       (λ y. rw (eqb-true p q y) (getD-set-same l q v d b ∙ e))
       (λ y. getD-set-other l q p v d (eqb-false p q y) ∙ h p k ∙ ap of (omega arith)))
 
-  pub by-months : (a : ℕ → ℕ) (n : ℕ) → sumTo 3 (λ (p : ℕ). a p * inPeriod g ts f n p) ≡ sumTo n (λ (m : ℕ). a (monthPeriod g ts m) * f m)
+  pub by-months : (a : ℕ → ℕ) (n : ℕ) → sumTo 3 (λ (p : ℕ). a p * inPeriod g bs f n p) ≡ sumTo n (λ (m : ℕ). a (monthPeriod g bs m) * f m)
   unfolding sumTo inPeriod if_then_else
   by-months a zero = omega arith
   by-months a (suc n) =
       let e = by-months a n in
-      three (λ (q : ℕ). sumTo 3 (λ (p : ℕ). a p * (inPeriod g ts f n p + if_then_else (eqb p q) (f n) 0)) ≡ sumTo n (λ (m : ℕ). a (monthPeriod g ts m) * f m) + a q * f n)
-      (omega arith) (omega arith) (omega arith) (monthPeriod g ts n) (conditions-in-range g (getD ts n (pos 0)) .period)
+      three (λ (q : ℕ). sumTo 3 (λ (p : ℕ). a p * (inPeriod g bs f n p + if_then_else (eqb p q) (f n) 0)) ≡ sumTo n (λ (m : ℕ). a (monthPeriod g bs m) * f m) + a q * f n)
+      (omega arith) (omega arith) (omega arith) (monthPeriod g bs n) (period-below g (getD bs n 0))
 
   -- what bounds each month bounds a period, and the three together
-  pub alone : (b n : ℕ) → ((m : ℕ) → m < n → f m ≤ b) → (p : ℕ) → inPeriod g ts f n p ≤ n * b
+  pub alone : (b n : ℕ) → ((m : ℕ) → m < n → f m ≤ b) → (p : ℕ) → inPeriod g bs f n p ≤ n * b
   unfolding inPeriod
-  alone b n h p = sumTo-bound b _ n (λ (m : ℕ) (l : m < n). both (λ (x : ℕ). x ≤ b) (eqb p (monthPeriod g ts m)) (h m l) zero-le)
+  alone b n h p = sumTo-bound b _ n (λ (m : ℕ) (l : m < n). both (λ (x : ℕ). x ≤ b) (eqb p (monthPeriod g bs m)) (h m l) zero-le)
 
-  pub together : (b n : ℕ) → ((m : ℕ) → m < n → f m ≤ b) → sumTo 3 (inPeriod g ts f n) ≤ n * b
+  pub together : (b n : ℕ) → ((m : ℕ) → m < n → f m ≤ b) → sumTo 3 (inPeriod g bs f n) ≤ n * b
   unfolding sumTo
   together b n h = omega (arith, by-months (λ (p : ℕ). 1) n, sumTo-bound b (λ (m : ℕ). 1 * f m) n (λ (m : ℕ) (p : m < n). omega (arith, h m p)))
 
@@ -78,13 +79,14 @@ module _ (g : Group) (h : groupInRange g ≡ true) where
   pub idle-most : (m : ℕ) → m < 12 → monthIdle g m ≤ 15500
   idle-most m p = let r = ranged g h in days (g .days) (r .days) m p ⊗ (le-refl 2 ⊗ r .idle)
 
-  pub warmup-most : (ts : List ℤ) (m : ℕ) → m < 12 → monthWarmup g ts m ≤ 9300
-  warmup-most ts m p = days (g .days) (ranged g h .days) m p ⊗ conditions-in-range g (getD ts m (pos 0)) .minutes
+  module _ (f : Factors) (hf : factorsInRange f ≡ true) (bs : List ℕ) where
+    pub warmup-most : (m : ℕ) → m < 12 → monthWarmup f g bs m ≤ 9300
+    warmup-most m p = days (g .days) (ranged g h .days) m p ⊗ tenths-most f hf g (getD bs m 0)
 
-  pub activity-in-range : (ts : List ℤ) → ActivityInRange (activityOf g ts)
-  unfolding activityOf listTo sumTo
-  activity-in-range ts = record {
-    warmup = together g ts (monthWarmup g ts) 9300 12 (warmup-most ts);
-    run = together g ts (monthRun g) 2480000 12 run-most;
-    idle = sumTo-bound 15500 (monthIdle g) 12 idle-most;
-  }
+    pub activity-in-range : ActivityInRange (activityOf f g bs)
+    unfolding activityOf listTo sumTo
+    activity-in-range = record {
+      warmup = together g bs (monthWarmup f g bs) 9300 12 warmup-most;
+      run = together g bs (monthRun g) 2480000 12 run-most;
+      idle = sumTo-bound 15500 (monthIdle g) 12 idle-most;
+    }

@@ -3,14 +3,15 @@ use Prim.Native.Nat.{ℕ, zero, suc, _<_, _≤_}
 use native.Mathlib.Nat.{le-trans}
 use native.Mathlib.Omega.{arith}
 use mathlib.Core.Path.{_≡_, refl}
-use mathlib.Core.Bool.{true}
+use mathlib.Core.Bool.{Bool, true, false, _&&_}
 use mathlib.Core.List.{List, [], _∷_}
 use borrow.Author.Tests.{leb-true}
 use lib.Dec.{leb}
 use lib.IntN.{ℤ}
 use lib.ListN.{getD}
+use Rattle.sums.specs.Choice.{allOf}
 use Rattle.sums.proofs.Choices.{left, right, nth, each, allTo-at}
-use Rattle.vehicle_fields.specs.Fields.{pollutantCount, distancesInRange, daysInRange, monthLengths, temperaturesInRange, groupInRange, groupTests, coefficientsInRange, seven, noMinute, noKilometre, allInRange, noCoefficients, inRange}
+use Rattle.vehicle_fields.specs.Fields.{pollutantCount, distancesInRange, daysInRange, monthLengths, temperaturesInRange, groupInRange, groupTests, coefficientsInRange, seven, noMinute, noKilometre, allInRange, noCoefficients, sourceInRange, inRange}
 use Rattle.vehicle_fields.specs.declared.group.Distances.{Distances}
 use Rattle.vehicle_fields.specs.declared.group.Group.{Group}
 use Rattle.vehicle_fields.specs.declared.group.Coefficients.{Coefficients}
@@ -87,7 +88,18 @@ pub of-six : (ks : List Coefficients) → allInRange ks ≡ true → (p : ℕ) �
 unfolding allInRange
 of-six ks h p q = allTo-at pollutantCount (λ (p : ℕ). coefficientsInRange (getD ks p noCoefficients)) h p q
 
--- a group, temperatures and coefficients that are all in range
-pub all-in-range : (g : Group) (ts : List ℤ) (ks : List Coefficients) → inRange g ts ks ≡ true → (groupInRange g ≡ true) × (allInRange ks ≡ true)
-unfolding inRange
-all-in-range g ts ks h = let t = nth (groupInRange g ∷ temperaturesInRange ts ∷ allInRange ks ∷ []) h in (t 0, t 2)
+-- a group and coefficients that are in range
+pub source-in-range : (g : Group) (ks : List Coefficients) → sourceInRange g ks ≡ true → (groupInRange g ≡ true) × (allInRange ks ≡ true)
+unfolding sourceInRange
+source-in-range g ks h = (left (groupInRange g) (allInRange ks) h, right (groupInRange g) (allInRange ks) h)
+
+-- what is in range: the temperatures, and the group with its coefficients
+pub in-range-is : (g : Group) (ts : List ℤ) (ks : List Coefficients) → inRange g ts ks ≡ (temperaturesInRange ts && sourceInRange g ks)
+unfolding inRange sourceInRange
+in-range-is g ts ks = go (groupInRange g) (temperaturesInRange ts)
+  where
+    go : (a b : Bool) → allOf (a ∷ b ∷ allInRange ks ∷ []) ≡ (b && (a && allInRange ks))
+    go true true = refl
+    go true false = refl
+    go false true = refl
+    go false false = refl

@@ -2,22 +2,27 @@
 use Prim.Native.Nat.{ℕ, _+_, _*_, _/_, _≤_}
 use mathlib.Core.List.{List}
 use lib.Dec.{eqb}
-use lib.IntN.{ℤ, pos}
 use lib.ListN.{getD}
 use Rattle.sums.specs.Choice.{if_then_else, sumTo, listTo}
-use Rattle.sums.specs.Fraction.{partsOf}
 use Rattle.sums.specs.Figures.{tonneParts, gramParts, annualOf, peakOf}
 use Rattle.sums.specs.declared.answer.Emission.{Emission}
-use Rattle.vehicle_fields.specs.Fields.{noMinute, noKilometre}
+use Rattle.sums.specs.Answer.{noRefusal}
+use Rattle.vehicle_fields.specs.Fields.{noMinute, noKilometre, noCoefficients, sourceInRange}
+use Rattle.vehicle_fields.specs.SootAndLead.{zeroWhereDue}
+use Rattle.vehicle_factors.specs.Factors.{standardFactors}
+use Rattle.vehicle_factors.specs.declared.Factors.{Factors}
 use Rattle.vehicle_fields.specs.declared.units.Minutes.{Minutes}
 use Rattle.vehicle_fields.specs.declared.units.Metres.{Metres}
 use Rattle.vehicle_fields.specs.declared.group.Distances.{Distances}
 use Rattle.vehicle_fields.specs.declared.group.Neutraliser.{Neutraliser}
 use Rattle.vehicle_fields.specs.declared.group.Group.{Group}
 use Rattle.vehicle_fields.specs.declared.group.Coefficients.{Coefficients}
-use Rattle.warmups.specs.Warmup.{tenths, conditionsAt}
+use Rattle.warmups.specs.Warmup.{tenthsIn}
+use Rattle.warmups.specs.Parts.{tenths, periodIn, conditionsIn}
+use Rattle.warmups.specs.declared.climate.Climate.{Climate}
 use Rattle.warmups.specs.declared.warmup.Conditions.{Conditions}
-use Rattle.vehicles.specs.Rules.{controlOf, pollutantCode}
+use Rattle.vehicles.specs.Rules.{percentOf, pollutantCode, emissionCount, groupRefusal}
+use Rattle.vehicles.specs.declared.rule.GroupAnswer.{GroupAnswer}
 use Rattle.vehicles.specs.declared.activity.Activity.{Activity}
 
 -- so many metres
@@ -34,15 +39,12 @@ dayRun g = metres (distanceSum (g .outward) .0 + distanceSum (g .inward) .0)
 abbrev pub dayIdle : Group → Minutes
 dayIdle g = tenths (2 * g .idle .0)
 
--- in a month: its period, and over its days worked the warm-up, the run and the idling
-abbrev pub monthConditions : Group → List ℤ → ℕ → Conditions
-monthConditions g ts m = conditionsAt g (getD ts m (pos 0))
+-- in a month, by the months' bands: its period, and over its days worked the warm-up, the run and the idling
+abbrev pub monthPeriod : Group → List ℕ → ℕ → ℕ
+monthPeriod g bs m = periodIn g (getD bs m 0)
 
-abbrev pub monthPeriod : Group → List ℤ → ℕ → ℕ
-monthPeriod g ts m = monthConditions g ts m .period
-
-abbrev pub monthWarmup : Group → List ℤ → ℕ → ℕ
-monthWarmup g ts m = getD (g .days) m 0 * monthConditions g ts m .minutes .0
+abbrev pub monthWarmup : Factors → Group → List ℕ → ℕ → ℕ
+monthWarmup f g bs m = getD (g .days) m 0 * tenthsIn f g (getD bs m 0)
 
 abbrev pub monthRun : Group → ℕ → ℕ
 monthRun g m = getD (g .days) m 0 * dayRun g .0
@@ -50,15 +52,15 @@ monthRun g m = getD (g .days) m 0 * dayRun g .0
 abbrev pub monthIdle : Group → ℕ → ℕ
 monthIdle g m = getD (g .days) m 0 * dayIdle g .0
 
--- the sum of f over those of the first n months whose period is p
-unfoldable pub inPeriod : Group → List ℤ → (ℕ → ℕ) → ℕ → ℕ → ℕ
-inPeriod g ts f n p = sumTo n (λ (m : ℕ). if_then_else (eqb p (monthPeriod g ts m)) (f m) 0)
+-- the sum of a number over those of the first n months whose period is p
+unfoldable pub inPeriod : Group → List ℕ → (ℕ → ℕ) → ℕ → ℕ → ℕ
+inPeriod g bs of n p = sumTo n (λ (m : ℕ). if_then_else (eqb p (monthPeriod g bs m)) (of m) 0)
 
 -- the year
-unfoldable pub activityOf : Group → List ℤ → Activity
-activityOf g ts = record {
-  warmup = listTo 3 (λ (p : ℕ). tenths (inPeriod g ts (monthWarmup g ts) 12 p));
-  run = listTo 3 (λ (p : ℕ). metres (inPeriod g ts (monthRun g) 12 p));
+unfoldable pub activityOf : Factors → Group → List ℕ → Activity
+activityOf f g bs = record {
+  warmup = listTo 3 (λ (p : ℕ). tenths (inPeriod g bs (monthWarmup f g bs) 12 p));
+  run = listTo 3 (λ (p : ℕ). metres (inPeriod g bs (monthRun g) 12 p));
   idle = tenths (sumTo 12 (monthIdle g));
 }
 
@@ -93,12 +95,24 @@ abbrev pub peakUnits : ℕ
 peakUnits = gramParts / 7200000000000
 
 -- one pollutant's emission, in exact units: a year in 2,000,000,000ths of a gram times a percentage, and a trip out in as many over 3,600 seconds
-unfoldable pub emissionParts : Group → Coefficients → ℕ → Activity → Conditions → Emission
-emissionParts g k p a coldest = record {
+unfoldable pub emissionParts : Factors → Group → Coefficients → ℕ → Activity → Conditions → Emission
+emissionParts f g k p a coldest = record {
   code = pollutantCode (g .fuel) p;
-  annual = annualOf (yearParts g k (partsOf 100 (controlOf g p)) a * g .share * (g .vehicles * yearUnits));
-  peak = peakOf (outParts g k (partsOf 100 (controlOf g p)) coldest * g .leaving * peakUnits);
+  annual = annualOf (yearParts g k (percentOf f g p) a * g .share * (g .vehicles * yearUnits));
+  peak = peakOf (outParts g k (percentOf f g p) coldest * g .leaving * peakUnits);
 }
+
+-- each pollutant's, with its own coefficients, in a climate
+unfoldable pub emissionsIn : Factors → Group → Climate → List Coefficients → List Emission
+emissionsIn f g c ks =
+    listTo emissionCount (λ (p : ℕ). emissionParts f g (getD ks p noCoefficients) p (activityOf f g (c .bands)) (conditionsIn f g (c .coldest)))
+
+-- the answer of a group in a climate, by the standard factors: what the rule answers at the temperatures that decide it (`Paper.answered`)
+unfoldable pub answerIn : Group → Climate → List Coefficients → GroupAnswer
+answerIn g c ks =
+    if_then_else (sourceInRange g ks)
+    (if_then_else (zeroWhereDue g ks) (record { verdict = noRefusal; emissions = emissionsIn standardFactors g c ks }) (groupRefusal 11))
+    (groupRefusal 9)
 
 -- how large they are at most: a year's minutes and metres over all three periods
 pub record NeutraliserInRange (n : Neutraliser) : Type 0 where

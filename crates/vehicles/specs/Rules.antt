@@ -1,4 +1,4 @@
--- 01, "Vehicle rules", over table 10 of SO 153-34.02.317-2003 (source document 000).
+-- 01, "Vehicle rules", over the factors: control percents and warm-up times. A warm-up's minutes are a function of the temperature.
 use Prim.Native.Nat.{ℕ, _+_}
 use mathlib.Core.List.{List, [], _∷_}
 use lib.Dec.{eqb}
@@ -10,6 +10,8 @@ use Rattle.sums.specs.Answer.{Contribution, contribution, noRefusal, refusedBy,
 use Rattle.sums.specs.declared.answer.Emission.{Emission}
 use Rattle.vehicle_fields.specs.Fields.{pollutantCount, noMinute, noKilometre, noCoefficients, inRange}
 use Rattle.vehicle_fields.specs.SootAndLead.{zeroWhereDue}
+use Rattle.vehicle_factors.specs.Factors.{standardFactors}
+use Rattle.vehicle_factors.specs.declared.Factors.{Factors}
 use Rattle.vehicle_fields.specs.declared.group.Distances.{Distances}
 use Rattle.vehicle_fields.specs.declared.group.Group.{Group}
 use Rattle.vehicle_fields.specs.declared.group.Coefficients.{Coefficients}
@@ -17,19 +19,12 @@ use Rattle.warmups.specs.Temperatures.{lowestOf}
 use Rattle.warmups.specs.Warmup.{minutesAt, periodAt}
 use Rattle.vehicles.specs.declared.rule.GroupAnswer.{GroupAnswer}
 
--- "Control factor: petrol CO 0.80, hydrocarbons 0.90, NO2 1, SO2 0.95, lead 0.95; diesel CO 0.90, hydrocarbons 0.90, NO2 1, soot 0.80, SO2 0.95.
--- It is 1 without control, and 1 for the two that 11 holds at zero": in the pollutants' order, CO, hydrocarbons, NO2, soot, SO2, lead, from place 0
-abbrev pub petrolControl : List Frac
-petrolControl = 80 over 100 ∷ 90 over 100 ∷ whole 1 ∷ whole 1 ∷ 95 over 100 ∷ 95 over 100 ∷ []
+-- "Control factor ... It is 1 without control": of the pollutant at place p, in percent, and as a fraction
+unfoldable pub percentOf : Factors → Group → ℕ → ℕ
+percentOf f g p = if_then_else (g .controlled) (if_then_else (eqb (g .fuel) 1) (getD (f .petrol) p 0) (getD (f .diesel) p 0)) 100
 
-abbrev pub dieselControl : List Frac
-dieselControl = 90 over 100 ∷ 90 over 100 ∷ whole 1 ∷ 80 over 100 ∷ 95 over 100 ∷ whole 1 ∷ []
-
-unfoldable pub controlOf : Group → ℕ → Frac
-controlOf g p =
-    if_then_else (g .controlled)
-    (if_then_else (eqb (g .fuel) 1) (getD petrolControl p (whole 0)) (getD dieselControl p (whole 0)))
-    (whole 1)
+abbrev pub controlOf : Factors → Group → ℕ → Frac
+controlOf f g p = percentOf f g p over 100
 
 -- "half the sum of the two ... distances", in kilometres
 abbrev pub halfSum : Distances → Frac
@@ -57,13 +52,13 @@ unfoldable pub monthGrams : Group → Coefficients → Frac → ℕ → Frac →
 monthGrams g k control period minutes days =
     (outGrams g k control period minutes ⊞ inGrams g k control period) ⊙ (g .share over 100) ⊙ whole (g .vehicles) ⊙ whole days
 
-unfoldable pub annualTonnes : Group → List ℤ → Coefficients → Frac → Frac
-annualTonnes g ts k control =
-    totalTo 12 (λ (m : ℕ). monthGrams g k control (periodAt g (getD ts m (pos 0))) (minutesAt g (getD ts m (pos 0))) (getD (g .days) m 0)) per 1000000
+unfoldable pub annualTonnes : (ℤ → Frac) → Group → List ℤ → Coefficients → Frac → Frac
+annualTonnes minutes g ts k control =
+    totalTo 12 (λ (m : ℕ). monthGrams g k control (periodAt g (getD ts m (pos 0))) (minutes (getD ts m (pos 0))) (getD (g .days) m 0)) per 1000000
 
 -- "Peak: out × N' / 3600, in the month of lowest temperature, whatever days are worked in it": at a temperature
-unfoldable pub peakGrams : Group → Coefficients → Frac → ℤ → Frac
-peakGrams g k control t = outGrams g k control (periodAt g t) (minutesAt g t) ⊙ whole (g .leaving) per 3600
+unfoldable pub peakGrams : (ℤ → Frac) → Group → Coefficients → Frac → ℤ → Frac
+peakGrams minutes g k control t = outGrams g k control (periodAt g t) (minutes t) ⊙ whole (g .leaving) per 3600
 
 -- "Hydrocarbons count as 2704 for petrol and 2754 for diesel (house rule). CO is 0337, NO2 0301, soot 0328, SO2 0330, lead 0184"
 abbrev pub petrolCodes : List ℕ
@@ -75,9 +70,13 @@ dieselCodes = 337 ∷ 2754 ∷ 301 ∷ 328 ∷ 330 ∷ 184 ∷ []
 unfoldable pub pollutantCode : ℕ → ℕ → ℕ
 pollutantCode fuel p = if_then_else (eqb fuel 1) (getD petrolCodes p 0) (getD dieselCodes p 0)
 
--- what a group gives of the pollutant at place p, which has the coefficients k
+-- what a group gives of the pollutant at place p, which has the coefficients k: by factors, and by the standard ones
+abbrev pub contributionBy : Factors → Group → List ℤ → Coefficients → ℕ → Contribution
+contributionBy f g ts k p =
+    contribution (pollutantCode (g .fuel) p) (annualTonnes (minutesAt f g) g ts k (controlOf f g p)) (peakGrams (minutesAt f g) g k (controlOf f g p) (lowestOf ts))
+
 abbrev pub contributionOf : Group → List ℤ → Coefficients → ℕ → Contribution
-contributionOf g ts k p = contribution (pollutantCode (g .fuel) p) (annualTonnes g ts k (controlOf g p)) (peakGrams g k (controlOf g p) (lowestOf ts))
+contributionOf = contributionBy standardFactors
 
 unfoldable pub emissionOf : Group → List ℤ → Coefficients → ℕ → Emission
 emissionOf g ts k p = emitted (contributionOf g ts k p)

@@ -1,27 +1,24 @@
-// Control factors, table 10.
+// Control factors.
 ghost use mathlib.Core.Path.{_≡_};
 ghost use Prim.Native.Nat.{_<_};
-ghost use Rattle.sums.specs.Fraction.{partsOf};
 ghost use Rattle.vehicle_fields.specs.Fields.{pollutantCount};
-ghost use Rattle.vehicles.specs.Rules.{controlOf};
+ghost use Rattle.vehicles.specs.Rules.{percentOf};
 use super::arithmetic;
+use vehicle_factors::Factors;
 use vehicle_fields::Group;
-use vehicle_fields::POLLUTANTS;
 
-// Percents, in the pollutants' order.
-const PETROL: [u8; POLLUTANTS] = [80, 90, 100, 100, 95, 95];
-
-const DIESEL: [u8; POLLUTANTS] = [90, 90, 100, 80, 95, 100];
-
-pub(crate) fn control_of(g: Group, place: usize) -> u64
+// In percent, of the pollutant at a place.
+pub(crate) fn control_of(f: Factors, g: Group, place: usize) -> u64
     requires { ⌜ place < pollutantCount ⌝ }
-    ensures { λ r. ⌜ r ≡ partsOf 100 (controlOf g place) ⌝ }
+    ensures { λ r. ⌜ r ≡ percentOf f g place ⌝ }
 {
     if g.controlled {
         if g.fuel == 1 {
-            arithmetic::wide8(PETROL[place])
+            let petrol = f.petrol;
+            arithmetic::wide8(petrol[place])
         } else {
-            arithmetic::wide8(DIESEL[place])
+            let diesel = f.diesel;
+            arithmetic::wide8(diesel[place])
         }
     } else {
         100

@@ -7,4 +7,5 @@ mod trip;
 
 pub use rule::EMISSIONS;
 pub use rule::GroupAnswer;
+pub use rule::emissions_in_climate;
 pub use rule::group_emissions;

@@ -4,9 +4,10 @@ ghost use mathlib.Core.Bool.{true};
 ghost use Prim.Native.Nat.{_*_, _<_, _≤_};
 ghost use Rattle.sums.specs.Figures.{annualOf, peakOf};
 ghost use Rattle.vehicle_fields.specs.Fields.{pollutantCount, groupInRange, coefficientsInRange, allInRange};
+ghost use Rattle.vehicle_factors.specs.Factors.{factorsInRange};
 ghost use Rattle.warmups.specs.Parts.{ConditionsInRange};
-ghost use Rattle.vehicles.specs.Rules.{pollutantCode, emissionsOf, groupRefusal, groupAnswer};
-ghost use Rattle.vehicles.specs.Parts.{ActivityInRange, yearUnits, peakUnits, yearParts, emissionParts};
+ghost use Rattle.vehicles.specs.Rules.{pollutantCode, groupRefusal, groupAnswer};
+ghost use Rattle.vehicles.specs.Parts.{ActivityInRange, yearUnits, peakUnits, yearParts, emissionParts, emissionsIn, answerIn};
 use super::activity;
 use super::activity::Activity;
 use super::arithmetic;
@@ -16,9 +17,11 @@ use sums::AnnualSum;
 use sums::Emission;
 use sums::PeakSum;
 use sums::Verdict;
+use vehicle_factors::Factors;
 use vehicle_fields::Coefficients;
 use vehicle_fields::Group;
 use vehicle_fields::POLLUTANTS;
+use warmups::Climate;
 use warmups::Conditions;
 
 // How many emissions a group's answer holds: one for each pollutant.
@@ -84,16 +87,17 @@ fn pollutant_code(fuel: u8, place: usize) -> u16
 
 // The emission of the pollutant at a place, from the year's activity and the coldest month's conditions.
 fn emission_of(
+    f: Factors,
     g: Group,
     k: Coefficients,
     place: usize,
     a: Activity,
     coldest: Conditions,
 ) -> Emission
-    requires { ⌜ (groupInRange g ≡ true) × (coefficientsInRange k ≡ true) × (place < pollutantCount) × ActivityInRange a × ConditionsInRange coldest ⌝ }
-    ensures { λ r. ⌜ r ≡ emissionParts g k place a coldest ⌝ }
+    requires { ⌜ (factorsInRange f ≡ true) × (groupInRange g ≡ true) × (coefficientsInRange k ≡ true) × (place < pollutantCount) × ActivityInRange a × ConditionsInRange coldest ⌝ }
+    ensures { λ r. ⌜ r ≡ emissionParts f g k place a coldest ⌝ }
 {
-    let control = control::control_of(g, place);
+    let control = control::control_of(f, g, place);
     Emission {
         code: pollutant_code(g.fuel, place),
         annual: annual_of(g, year_of(g, k, control, a)),
@@ -101,16 +105,22 @@ fn emission_of(
     }
 }
 
-fn emissions_of(g: Group, ts: [i16; 12], ks: [Coefficients; POLLUTANTS]) -> [Emission; EMISSIONS]
-    requires { ⌜ (groupInRange g ≡ true) × (allInRange ks ≡ true) ⌝ }
-    ensures { λ r. ⌜ r ≡ emissionsOf g ts ks ⌝ }
+fn emissions_in(
+    f: Factors,
+    g: Group,
+    c: Climate,
+    ks: [Coefficients; POLLUTANTS],
+) -> [Emission; EMISSIONS]
+    requires { ⌜ (factorsInRange f ≡ true) × (groupInRange g ≡ true) × (allInRange ks ≡ true) ⌝ }
+    ensures { λ r. ⌜ r ≡ emissionsIn f g c ks ⌝ }
 {
-    let a = activity::activity_of(g, ts);
-    let coldest = warmups::conditions_at(g, warmups::lowest(ts));
+    let bands = c.bands;
+    let a = activity::activity_of(f, g, bands);
+    let coldest = warmups::conditions_in(f, g, c.coldest);
     let mut emissions = [Emission::none(); EMISSIONS];
     let mut p = 0;
     while p < EMISSIONS {
-        emissions[p] = emission_of(g, ks[p], p, a, coldest);
+        emissions[p] = emission_of(f, g, ks[p], p, a, coldest);
         p += 1;
     }
     emissions
@@ -128,18 +138,29 @@ impl GroupAnswer {
     }
 }
 
-pub fn group_emissions(g: Group, ts: [i16; 12], ks: [Coefficients; POLLUTANTS]) -> GroupAnswer
-    ensures { λ r. ⌜ r ≡ groupAnswer g ts ks ⌝ }
+// In a climate, which many groups share.
+pub fn emissions_in_climate(g: Group, c: Climate, ks: [Coefficients; POLLUTANTS]) -> GroupAnswer
+    ensures { λ r. ⌜ r ≡ answerIn g c ks ⌝ }
 {
-    if vehicle_fields::in_range(g, ts, ks) {
+    if vehicle_fields::source_in_range(g, ks) {
         if vehicle_fields::zero_where_due(g, ks) {
             GroupAnswer {
                 verdict: Verdict { number: 0, slot: 0 },
-                emissions: emissions_of(g, ts, ks),
+                emissions: emissions_in(vehicle_factors::standard_factors(), g, c, ks),
             }
         } else {
             GroupAnswer::refusal(11)
         }
+    } else {
+        GroupAnswer::refusal(9)
+    }
+}
+
+pub fn group_emissions(g: Group, ts: [i16; 12], ks: [Coefficients; POLLUTANTS]) -> GroupAnswer
+    ensures { λ r. ⌜ r ≡ groupAnswer g ts ks ⌝ }
+{
+    if vehicle_fields::temperatures_in_range(ts) {
+        emissions_in_climate(g, warmups::climate_of(ts), ks)
     } else {
         GroupAnswer::refusal(9)
     }

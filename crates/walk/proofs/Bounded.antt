@@ -15,6 +15,8 @@ use Rattle.sums.specs.Exactness.{sourcesMost, Bounded}
 use Rattle.stores.specs.Rules.{handlingContribution, standingContribution, aspirationContribution}
 use Rattle.stores.proofs.Bounds.{handling-bounded, standing-bounded, aspiration-bounded}
 use Rattle.vehicle_fields.specs.Fields.{noCoefficients}
+use Rattle.vehicle_factors.specs.Factors.{standardFactors}
+use Rattle.vehicle_factors.proofs.Standard.{standard-in-range}
 use Rattle.vehicles.specs.Rules.{emissionCount, contributionOf}
 use Rattle.vehicles.proofs.Bounds.{group-bounded}
 use Rattle.locomotive_fields.specs.Fields.{locomotiveInRange}
@@ -47,7 +49,7 @@ module _ (f : Contribution → Frac) (k most : ℕ) (bound : (n : ℕ) (x : Cont
       let x : ℕ → Contribution = λ (p : ℕ). contributionOf (v .group) (temperaturesAt s) (getD (v .coefficients) p noCoefficients) p in
       rw (total-listTo (partsTo f k c) emissionCount x)
       (sumTo-share most (λ (p : ℕ). partsTo f k c (x p)) emissionCount (lit< tt)
-      (λ (p : ℕ) (l : p < emissionCount). one-most emissionCount (x p) (group-bounded (v .group) (temperaturesAt s) (getD (v .coefficients) p noCoefficients)
+      (λ (p : ℕ) (l : p < emissionCount). one-most emissionCount (x p) (group-bounded standardFactors standard-in-range (v .group) (temperaturesAt s) (getD (v .coefficients) p noCoefficients)
       (group-in-range s (groupsSoFar gs) g h) (row-in-range s (groupsSoFar gs) g h p l) p)))
 
   store-most : (r : StoreRecord) → storeInRange r ≡ true → total (partsTo f k c) (storeContributions r) ≤ most

@@ -1,4 +1,4 @@
--- 01, "Vehicle rules": the period of a month's temperature, the column of the warm-up table, and the lowest of the year. Temperatures are in tenths of a degree.
+-- 01, "Vehicle rules": the period of a month's temperature, the band of the warm-up table, and the lowest of the year. Temperatures are in tenths of a degree.
 use Prim.Native.Nat.{ℕ, zero, suc}
 use mathlib.Core.List.{List, [], _∷_}
 use lib.IntN.{ℤ, pos}

@@ -1,37 +1,26 @@
--- 01, "Vehicle rules": warm-up minutes over table 9 of SO 153-34.02.317-2003 (source document 000), and heated stands.
+-- 01, "Vehicle rules": warm-up minutes over table 9 of SO 153-34.02.317-2003 (source document 000), which is a part of the factors, and heated stands.
 use Prim.Native.Nat.{ℕ}
-use mathlib.Core.List.{List, [], _∷_}
+use mathlib.Core.List.{List}
 use lib.Dec.{eqb}
 use lib.IntN.{ℤ}
 use lib.ListN.{getD}
 use Rattle.sums.specs.Choice.{if_then_else}
-use Rattle.sums.specs.Fraction.{Frac, _over_, whole, partsOf}
-use Rattle.vehicle_fields.specs.declared.units.Minutes.{Minutes}
+use Rattle.sums.specs.Fraction.{Frac, _over_}
+use Rattle.vehicle_factors.specs.declared.Factors.{Factors}
 use Rattle.vehicle_fields.specs.declared.group.Group.{Group}
 use Rattle.warmups.specs.Temperatures.{periodOf, warmupBand}
-use Rattle.warmups.specs.declared.warmup.Conditions.{Conditions}
 
--- "Car 3, 4, 10, 15, 15, 20, 20. Truck and bus 4, 6, 12, 20, 25, 30, 30"
-abbrev pub carMinutes : List Frac
-carMinutes = whole 3 ∷ whole 4 ∷ whole 10 ∷ whole 15 ∷ whole 15 ∷ whole 20 ∷ whole 20 ∷ []
+-- "3 category, 1 car, 2 truck, 3 bus": its row of the table, in tenths of a minute
+unfoldable pub timesOf : Factors → ℕ → List ℕ
+timesOf f category = if_then_else (eqb category 1) (f .car) (if_then_else (eqb category 2) (f .truck) (f .bus))
 
-abbrev pub truckMinutes : List Frac
-truckMinutes = whole 4 ∷ whole 6 ∷ whole 12 ∷ whole 20 ∷ whole 25 ∷ whole 30 ∷ whole 30 ∷ []
+-- "Warm-up minutes (000 Table 9 ...)" at a band of temperature, in tenths; "A heated stand has 1.5 minutes ... all year (003)"
+unfoldable pub tenthsIn : Factors → Group → ℕ → ℕ
+tenthsIn f g band = if_then_else (g .heated) 15 (getD (timesOf f (g .category)) band 0)
 
-unfoldable pub tableMinutes : ℕ → ℤ → Frac
-tableMinutes category t = if_then_else (eqb category 1) (getD carMinutes (warmupBand t) (whole 0)) (getD truckMinutes (warmupBand t) (whole 0))
+unfoldable pub minutesAt : Factors → Group → ℤ → Frac
+minutesAt f g t = tenthsIn f g (warmupBand t) over 10
 
--- "A heated stand has 1.5 minutes and warm-period coefficients all year (003)"
-unfoldable pub minutesAt : Group → ℤ → Frac
-minutesAt g t = if_then_else (g .heated) (15 over 10) (tableMinutes (g .category) t)
-
+-- "A heated stand has ... warm-period coefficients all year (003)"
 unfoldable pub periodAt : Group → ℤ → ℕ
 periodAt g t = if_then_else (g .heated) 0 (periodOf t)
-
--- so many tenths of a minute
-abbrev pub tenths : ℕ → Minutes
-tenths n = record { 0 = n }
-
--- what a temperature decides: the period whose coefficients count, and warm-up
-unfoldable pub conditionsAt : Group → ℤ → Conditions
-conditionsAt g t = record { period = periodAt g t; minutes = tenths (partsOf 10 (minutesAt g t)) }

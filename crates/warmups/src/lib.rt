@@ -1,7 +1,9 @@
-// What a month's temperature decides for a vehicle group: the period, and the minutes of warm-up.
-pub mod temperature;
+// What a temperature decides for a vehicle group: the period, and the minutes of warm-up.
+pub mod climate;
+mod temperature;
 pub mod warmup;
 
-pub use temperature::lowest;
+pub use climate::Climate;
+pub use climate::climate_of;
 pub use warmup::Conditions;
-pub use warmup::conditions_at;
+pub use warmup::conditions_in;

@@ -1,7 +1,6 @@
-// Monthly mean temperatures, in tenths of a degree: the lowest, the period and the column of the warm-up table.
+// Monthly mean temperatures, in tenths of a degree: the lowest, and the band of the warm-up table.
 ghost use mathlib.Core.Path.{_≡_};
-ghost use Prim.Native.Nat.{_<_};
-ghost use Rattle.warmups.specs.Temperatures.{lowerOf, lowestOf, periodOf, warmupBand};
+ghost use Rattle.warmups.specs.Temperatures.{lowerOf, lowestOf, warmupBand};
 
 fn lower(x: i16, y: i16) -> i16
     ensures { λ r. ⌜ r ≡ lowerOf x y ⌝ }
@@ -9,7 +8,7 @@ fn lower(x: i16, y: i16) -> i16
     if x < y { x } else { y }
 }
 
-pub fn lowest(ts: [i16; 12]) -> i16
+pub(crate) fn lowest(ts: [i16; 12]) -> i16
     ensures { λ r. ⌜ r ≡ lowestOf ts ⌝ }
 {
     let mut least = ts[0];
@@ -21,20 +20,9 @@ pub fn lowest(ts: [i16; 12]) -> i16
     least
 }
 
-// 0 warm, 1 transitional, 2 cold.
-pub(crate) fn period(t: i16) -> usize
-    ensures { λ r. ⌜ (r ≡ periodOf t) × (r < 3) ⌝ }
-{
-    match t {
-        51.. => 0,
-        -50..=50 => 1,
-        _ => 2,
-    }
-}
-
-// The column of the warm-up table, 0 the warmest.
-pub(crate) fn warmup_band(t: i16) -> usize
-    ensures { λ r. ⌜ (r ≡ warmupBand t) × (r < 7) ⌝ }
+// 0 the warmest.
+pub(crate) fn warmup_band(t: i16) -> u8
+    ensures { λ r. ⌜ r ≡ warmupBand t ⌝ }
 {
     match t {
         51.. => 0,

@@ -1,55 +1,65 @@
-// Warm-up minutes by table 9, and heated stands.
+// Warm-up minutes, and heated stands.
 ghost use mathlib.Core.Path.{_≡_};
-ghost use Rattle.sums.specs.Fraction.{partsOf};
-ghost use Rattle.warmups.specs.Warmup.{tenths, tableMinutes, minutesAt, periodAt, conditionsAt};
-ghost use Rattle.warmups.specs.Parts.{ConditionsInRange};
-use super::temperature;
+ghost use Prim.Native.Nat.{_<_};
+ghost use lib.ListN.{getD};
+ghost use Rattle.warmups.specs.Warmup.{timesOf, tenthsIn};
+ghost use Rattle.warmups.specs.Parts.{tenths, bandPeriod, periodIn, conditionsIn};
+use vehicle_factors::BANDS;
+use vehicle_factors::Factors;
 use vehicle_fields::Group;
 use vehicle_fields::Minutes;
 
-// What a month's temperature decides: the period whose coefficients count, and the warm-up minutes.
+// What a month's band decides: the period whose coefficients count, 0 warm, 1 transitional, 2 cold, and the warm-up minutes.
 pub struct Conditions {
     pub period: usize,
     pub minutes: Minutes,
 }
 
-// Tenths of a minute, by the bands of temperature from the warmest.
-const CAR: [u32; 7] = [30, 40, 100, 150, 150, 200, 200];
-
-const TRUCK: [u32; 7] = [40, 60, 120, 200, 250, 300, 300];
-
-fn table_minutes(category: u8, t: i16) -> Minutes
-    ensures { λ r. ⌜ r ≡ tenths (partsOf 10 (tableMinutes category t)) ⌝ }
+fn times_of(f: Factors, category: u8) -> [u16; BANDS]
+    ensures { λ r. ⌜ r ≡ timesOf f category ⌝ }
 {
-    let band = temperature::warmup_band(t);
-    Minutes(if category == 1 {
-        CAR[band]
-    } else {
-        TRUCK[band]
-    })
+    match category {
+        1 => f.car,
+        2 => f.truck,
+        _ => f.bus,
+    }
 }
 
-fn minutes_at(g: Group, t: i16) -> Minutes
-    ensures { λ r. ⌜ r ≡ tenths (partsOf 10 (minutesAt g t)) ⌝ }
+// The time at a band; none past the last.
+fn time_at(times: [u16; BANDS], band: u8) -> u32
+    ensures { λ r. ⌜ r ≡ getD times band 0 ⌝ }
+{
+    let at = band as usize;
+    if at < BANDS { times[at] as u32 } else { 0 }
+}
+
+fn minutes_in(f: Factors, g: Group, band: u8) -> Minutes
+    ensures { λ r. ⌜ r ≡ tenths (tenthsIn f g band) ⌝ }
 {
     if g.heated {
         Minutes(15)
     } else {
-        table_minutes(g.category, t)
+        Minutes(time_at(times_of(f, g.category), band))
     }
 }
 
-fn period_at(g: Group, t: i16) -> usize
-    ensures { λ r. ⌜ r ≡ periodAt g t ⌝ }
+fn band_period(band: u8) -> usize
+    ensures { λ r. ⌜ r ≡ bandPeriod band ⌝ }
 {
-    if g.heated { 0 } else { temperature::period(t) }
+    if band < 2 { band as usize } else { 2 }
 }
 
-pub fn conditions_at(g: Group, t: i16) -> Conditions
-    ensures { λ r. ⌜ (r ≡ conditionsAt g t) × ConditionsInRange r ⌝ }
+fn period_in(g: Group, band: u8) -> usize
+    ensures { λ r. ⌜ r ≡ periodIn g band ⌝ }
+{
+    if g.heated { 0 } else { band_period(band) }
+}
+
+pub fn conditions_in(f: Factors, g: Group, band: u8) -> Conditions
+    ensures { λ r. ⌜ (r ≡ conditionsIn f g band) × (r .period < 3) ⌝ }
 {
     Conditions {
-        period: period_at(g, t),
-        minutes: minutes_at(g, t),
+        period: period_in(g, band),
+        minutes: minutes_in(f, g, band),
     }
 }

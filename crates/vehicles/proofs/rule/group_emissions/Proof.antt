@@ -1,23 +1,32 @@
--- The two tests choose the answer; a group in range has what the emissions ask.
+-- The answer in the climate of temperatures in range; out of range, 9.
 use native.Mathlib.Omega.{arith}
-use mathlib.Core.Path.{_∙_, sym}
-use Rattle.sums.proofs.Choices.{yes, no}
+use mathlib.Core.Path.{_∙_, sym, ap}
+use mathlib.Core.Bool.{_&&_}
+use Rattle.sums.proofs.Choices.{no}
+use Rattle.vehicle_fields.specs.Fields.{sourceInRange}
 use Rattle.vehicles.specs.Rules.{groupAnswer}
-use Rattle.vehicles.proofs.Ranges.{all-in-range}
+use Rattle.vehicles.specs.Parts.{answerIn}
+use Rattle.vehicles.proofs.Ranges.{in-range-is}
+use Rattle.vehicles.proofs.Paper.{answered}
 use Rattle.vehicles.proofs.rule.group_emissions.Statement.{statement}
 use Rattle.vehicles.proofs.rule.group_emissions.Tie as tie
 
-pub group-emissions-spec : {M : Type 1} → statement M
+returns : tie.Need-returns
+returns c =
+    let w = c .before in
+    let t = w .before in
+    let x = t .before .before .args in
+    c .emissions-in-climate .ensures ∙ ap (λ y. answerIn (x .g) y (x .ks)) (w .climate-of .ensures)
+    ∙ answered (x .g) (x .ts) (x .ks) (sym (t .before .temperatures-in-range .ensures) ∙ t .if1 .taken)
+
+returns-2 : tie.Need-returns-2
 unfolding groupAnswer
-group-emissions-spec =
-    tie.close
-    (tie.spec (omega arith) (omega arith)
-    (λ c κs. all-in-range _ _ _ (sym (c .before .before .before .in-range .ensures) ∙ c .before .before .if1 .taken))
-    (omega arith) (omega arith)
-    (λ c.
-    yes _ _ _ _ (sym (c .before .before .before .before .in-range .ensures) ∙ c .before .before .before .if1 .taken)
-    (yes _ _ _ _ (sym (c .before .before .zero-where-due .ensures) ∙ c .before .if2 .taken) (rw (c .emissions-of .ensures))))
-    (λ c.
-    yes _ _ _ _ (sym (c .before .before .before .before .in-range .ensures) ∙ c .before .before .before .if1 .taken)
-    (no _ _ _ _ (sym (c .before .before .zero-where-due .ensures) ∙ c .before .if2 .left) (c .refusal .ensures)))
-    (λ c. no _ _ _ _ (sym (c .before .before .in-range .ensures) ∙ c .before .if1 .left) (c .refusal2 .ensures)))
+returns-2 c =
+    let t = c .before in
+    let x = t .before .before .args in
+    no _ _ _ _
+    (in-range-is (x .g) (x .ts) (x .ks) ∙ ap (λ b. b && sourceInRange (x .g) (x .ks)) (sym (t .before .temperatures-in-range .ensures) ∙ t .if1 .left))
+    (c .refusal .ensures)
+
+pub group-emissions-spec : {M : Type 1} → statement M
+group-emissions-spec = tie.close (tie.spec (omega arith) (omega arith) (omega arith) (omega arith) returns returns-2)
