@@ -95,3 +95,8 @@ module _ (asks : List ℕ → ℕ → List Question) (s : List ℕ) (from : ℕ)
           let h = short b 0 w in
           follows b 0 (suc m) mostSlots (omega arith) w ∙ stop m b;
     }
+
+-- a chain that goes on has begun
+pub begun : (s : List ℕ) (from : ℕ) (b : List ℕ) (link : ℕ) → Chain s from b link → (link ≡ 0 → ⊥) → from ≡ 0 → ⊥
+begun s from [] link e z f = z (e ∙ f)
+begun s from (k ∷ b) link e z f = begun s from b k (e .2) (e .1) f

@@ -1,7 +1,7 @@
 -- A source that nothing is refused of is in range, and has zero soot or lead where it must: so its rule answers what it gives, and never a refusal. Assumes
 -- nothing.
 use Prim.Native.Nat.{ℕ, _<_}
-use mathlib.Core.Path.{_≡_}
+use mathlib.Core.Path.{_≡_, ap, _∙_}
 use mathlib.Core.Bool.{Bool, true, false}
 use mathlib.Core.List.{List, [], _∷_, _++_}
 use lib.Dec.{leb, eqb}
@@ -11,7 +11,11 @@ use Rattle.sums.proofs.Choices.{nth, allTo-of, listTo-at}
 use Rattle.store_records.specs.Fields.{handlingInRange, standingInRange, aspirationInRange}
 use Rattle.vehicle_fields.specs.Fields.{pollutantCount, noCoefficients, groupInRange, coefficientsInRange, allInRange, inRange}
 use Rattle.vehicle_fields.specs.SootAndLead.{zeroWhereDue}
+use Rattle.warmups.specs.Parts.{climateOf}
 use Rattle.vehicles.specs.Rules.{emissionsOf, groupAnswer}
+use Rattle.vehicles.specs.Parts.{answerIn}
+use Rattle.vehicles.specs.declared.rule.GroupAnswer.{GroupAnswer}
+use Rattle.vehicles.proofs.Paper.{answered}
 use Rattle.locomotive_fields.specs.Fields.{locomotiveInRange, sharesAddUp}
 use Rattle.locomotives.specs.Rules.{locomotiveEmissions, locomotiveAnswer}
 use Rattle.slots.specs.Bytes.{byteAt, zeroFrom, slotOf}
@@ -69,6 +73,14 @@ module _ (s : List ℕ) (c : Chains) (g : ℕ) (a : AllYes (groupAsks s c g)) wh
       ≡ emissionsOf (groupAt s g .group) (temperaturesAt s) (groupAt s g .coefficients)
   unfolding groupAnswer if_then_else
   group-answered h = simp (all-in-range h, zero-where-due)
+
+  -- and so it does in the file's climate
+  pub climate-answered : AllYes (headAsks s)
+      → answerIn (groupAt s g .group) (climateOf (temperaturesAt s)) (groupAt s g .coefficients) .emissions
+      ≡ emissionsOf (groupAt s g .group) (temperaturesAt s) (groupAt s g .coefficients)
+  unfolding headAsks temperaturesAt
+  climate-answered h =
+      ap (λ (a : GroupAnswer). a .emissions) (answered (groupAt s g .group) (temperaturesAt s) (groupAt s g .coefficients) (yes-at (headAsks s) h 4)) ∙ group-answered h
 
 -- a store record in range
 abbrev pub storeInRange : StoreRecord → Bool

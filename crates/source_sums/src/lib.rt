@@ -1,6 +1,6 @@
 // What a source gives, added to a file's sums in lent memory, where they are wanted.
 ghost use mathlib.Core.Path.{_≡_};
-ghost use Rattle.vehicles.specs.Rules.{groupAnswer};
+ghost use Rattle.vehicles.specs.Parts.{answerIn};
 ghost use Rattle.locomotives.specs.Rules.{locomotiveAnswer};
 ghost use Rattle.source_sums.specs.Added.{plusGroup, recordEmission, storeEmission, plusStore, plusLocomotive};
 use locomotive_fields::Locomotive;
@@ -10,6 +10,7 @@ use sums::Emission;
 use vehicle_fields::Coefficients;
 use vehicle_fields::Group;
 use vehicle_fields::POLLUTANTS;
+use warmups::Climate;
 
 // A group with its own coefficients, the `VehicleGroup` of the definitions. One value, so that a walk which only checks copies neither.
 pub struct GroupSource {
@@ -17,14 +18,14 @@ pub struct GroupSource {
     pub coefficients: [Coefficients; POLLUTANTS],
 }
 
-// Adds a group's emissions.
-pub fn add_group(totals: &mut [u64], summing: bool, temperatures: [i16; 12], source: GroupSource)
-    ensures { λ _. ⌜ now (totals .exit) ≡ plusGroup summing (now (totals .entry)) (groupAnswer (source .group) temperatures (source .coefficients)) ⌝ }
+// Adds a group's emissions in a climate.
+pub fn add_group(totals: &mut [u64], summing: bool, climate: Climate, source: GroupSource)
+    ensures { λ _. ⌜ now (totals .exit) ≡ plusGroup summing (now (totals .entry)) (answerIn (source .group) climate (source .coefficients)) ⌝ }
 {
     if summing {
         let group = source.group;
         let coefficients = source.coefficients;
-        let answer = vehicles::group_emissions(group, temperatures, coefficients);
+        let answer = vehicles::emissions_in_climate(group, climate, coefficients);
         let emissions = answer.emissions;
         totals::add_all(totals, emissions);
     }

@@ -4,7 +4,6 @@ use native.Mathlib.Omega.{arith}
 use mathlib.Core.Path.{_≡_, refl, sym, ap, subst, _∙_}
 use mathlib.Core.Bool.{Bool, true}
 use mathlib.Core.List.{List, [], _∷_, _++_}
-use lib.IntN.{ℤ}
 use lib.ListN.{getD, length, set, length-append}
 use Rattle.sums.specs.Choice.{if_then_else, listTo}
 use Rattle.sums.proofs.Choices.{both}
@@ -13,7 +12,10 @@ use Rattle.sums.specs.declared.answer.Emission.{Emission}
 use Rattle.stores.specs.Rules.{handlingContribution, standingContribution, aspirationContribution}
 use Rattle.stores.proofs.Exactly.{handling-emitted, standing-emitted, aspiration-emitted}
 use Rattle.vehicle_fields.specs.Fields.{pollutantCount, noCoefficients}
-use Rattle.vehicles.specs.Rules.{emissionCount, contributionOf, emissionOf, emissionsOf, groupAnswer}
+use Rattle.warmups.specs.Parts.{climateOf}
+use Rattle.warmups.specs.declared.climate.Climate.{Climate}
+use Rattle.vehicles.specs.Rules.{emissionCount, contributionOf, emissionOf, emissionsOf}
+use Rattle.vehicles.specs.Parts.{answerIn}
 use Rattle.locomotive_fields.specs.declared.fields.Locomotive.{Locomotive}
 use Rattle.locomotives.specs.Rules.{substanceCount, locomotiveContribution, locomotiveEmissions, locomotiveAnswer}
 use Rattle.slots.specs.Bytes.{slotOf}
@@ -41,7 +43,7 @@ use Rattle.walk.specs.declared.walked.Walked.{Walked}
 use Rattle.walk.specs.declared.group_chain.GroupStep.{GroupStep}
 use Rattle.walk.specs.declared.store_chain.StoreStep.{StoreStep}
 use Rattle.walk.specs.declared.locomotive_chain.LocomotiveStep.{LocomotiveStep}
-use Rattle.slot_file.proofs.Ranged.{group-answered, storeInRange, store-answered, locomotive-answered}
+use Rattle.slot_file.proofs.Ranged.{climate-answered, storeInRange, store-answered, locomotive-answered}
 
 -- a walk that a question ends, and one that goes to the end of its chain
 module _ {s : List ℕ} {Ended : Counts → Type 0} {r : Walked} where
@@ -88,11 +90,10 @@ module _ (s : List ℕ) where
     pub group-passed : {summing : Bool} {sources sources′ reached reached′ : List Bool} {totals totals′ : List ℕ} {holder link : ℕ} {counts : Counts} {r : GroupStep}
         → GroupsPassed s summing sources reached totals holder link counts → (link ≡ 0 → ⊥)
         → GroupStepped s holder link sources sources′ reached reached′ r → r .verdict .number ≡ 0
-        → (ts : List ℤ) → ts ≡ temperaturesAt s → totals′ ≡ plusGroup summing totals (groupAnswer (r .source .group) ts (r .source .coefficients))
+        → (y : Climate) → (summing ≡ true → y ≡ climateOf (temperaturesAt s)) → totals′ ≡ plusGroup summing totals (answerIn (r .source .group) y (r .source .coefficients))
         → GroupsPassed s summing sources′ reached′ totals′ link (r .next) (record { groups = counts .groups + 1; stores = counts .stores; locomotives = counts .locomotives })
     unfolding plusGroup if_then_else
-    group-passed {summing} {totals = totals} {link = g} {counts} {r} p z t y ts w f =
-        let d = f ∙ ap (λ (l : List ℤ). plusGroup summing totals (groupAnswer (r .source .group) l (r .source .coefficients))) w in
+    group-passed {summing} {totals = totals} {link = g} {counts} {r} p z t y climate w d =
         let q = t .passed y in
         let h′ = p .holds in
         let n : counts .groups + 1 ≡ length (g ∷ p .gs) = omega (arith, ap (λ (m : Counts). m .groups) (h′ .counts-are)) in
@@ -105,12 +106,12 @@ module _ (s : List ℕ) where
             counts-are = λ i. record { groups = n i; stores = h′ .counts-are i .stores; locomotives = h′ .counts-are i .locomotives };
             sources-are = q .source-marked ∙ ap (λ (l : List Bool). set l g true) (h′ .sources-are);
             reached-are = q .slots-marked ∙ ap (λ (l : List Bool). marksTo s g (set l g true) pollutantCount) (h′ .reached-are) ∙ group-marked (p .gs) g;
-            room = ap length d ∙ same-room summing totals (plusToIn totals (groupAnswer (r .source .group) (temperaturesAt s) (r .source .coefficients) .emissions) emissionCount) (plus-to-room totals _ emissionCount) ∙ h′ .room;
+            room = ap length d ∙ same-room summing totals (plusToIn totals (answerIn (r .source .group) climate (r .source .coefficients) .emissions) emissionCount) (plus-to-room totals _ emissionCount) ∙ h′ .room;
             sums-are = λ e.
                 subst (Sums (sumsOf s (groupsSoFar (g ∷ p .gs))))
-                (sym (d ∙ ap (λ (b : Bool). plusGroup b totals (groupAnswer (r .source .group) (temperaturesAt s) (r .source .coefficients))) e
-                ∙ (λ i. plusToIn totals (groupAnswer (q .group i) (temperaturesAt s) (q .coefficients i) .emissions) emissionCount)
-                ∙ ap (λ l. plusToIn totals l emissionCount) (group-answered s (groupsSoFar (p .gs)) g a h)))
+                (sym (d ∙ ap (λ (b : Bool). plusGroup b totals (answerIn (r .source .group) climate (r .source .coefficients))) e
+                ∙ (λ i. plusToIn totals (answerIn (q .group i) (w e i) (q .coefficients i) .emissions) emissionCount)
+                ∙ ap (λ l. plusToIn totals l emissionCount) (climate-answered s (groupsSoFar (p .gs)) g a h)))
                 (group-summed (p .gs) g totals (h′ .sums-are e));
           };
         }

@@ -1,7 +1,9 @@
 // The group chain.
 ghost use mathlib.Core.Path.{_≡_};
+ghost use mathlib.Core.Bool.{true};
 ghost use Prim.Native.Nat.{_≤_};
 ghost use lib.ListN.{length};
+ghost use Rattle.warmups.specs.Parts.{climateOf};
 ghost use Rattle.slot_file.specs.Questions.{mostBytes};
 ghost use Rattle.walk.specs.Steps.{GroupStepped};
 ghost use Rattle.walk.specs.Walked.{GroupsBegin, GroupsWalked};
@@ -13,6 +15,7 @@ use slot_file::MOST_SLOTS;
 use slots::Header;
 use source_sums::GroupSource;
 use sums::Verdict;
+use warmups::Climate;
 
 // What a link to a group was told, the group with its coefficients, and the next link.
 pub(crate) struct GroupStep {
@@ -63,6 +66,19 @@ fn step_group(
     }
 }
 
+// The bands of the year, where groups are to be summed.
+fn climate_where(wanted: bool, temperatures: [i16; 12]) -> Climate
+    ensures { λ r. ⌜ (wanted ≡ true → r ≡ climateOf temperatures) ⌝ }
+{
+    if wanted {
+        return warmups::climate_of(temperatures);
+    }
+    Climate {
+        bands: [0; 12],
+        coldest: 0,
+    }
+}
+
 // The group chain, from slot 0 to a zero or to the first question that is answered no. It ends: a step that goes on has marked a source that was not marked before
 // (question 7), and a file has fewer than MOST_SLOTS of them.
 pub(crate) fn walk_groups(
@@ -80,13 +96,14 @@ pub(crate) fn walk_groups(
     let mut holder = 0;
     let mut link = h.heads.groups;
     let mut counts = walked::no_counts();
+    let climate = climate_where(summing & (link != 0), temperatures);
     while link != 0 {
         let step = step_group(file, sources, reached, holder, link);
         let verdict = step.verdict;
         if verdict.number != 0 {
             return Walked { verdict, counts };
         }
-        source_sums::add_group(totals, summing, temperatures, step.source);
+        source_sums::add_group(totals, summing, climate, step.source);
         holder = link;
         link = step.next;
         counts.groups += 1;

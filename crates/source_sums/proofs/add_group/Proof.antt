@@ -16,7 +16,7 @@ returns c =
     let g = a .before .before .before in
     let b = g .before .before .before in
     let l = b .before .before .args .totals .now in
-    yes _ _ _ _ (b .if1 .taken) (a .add-all .ensures ∙ ap (λ (r : GroupAnswer). plusToIn l (r .emissions) emissionCount) (g .group-emissions .ensures))
+    yes _ _ _ _ (b .if1 .taken) (a .add-all .ensures ∙ ap (λ (r : GroupAnswer). plusToIn l (r .emissions) emissionCount) (g .emissions-in-climate .ensures))
 
 returns-2 : tie.Need-returns-2
 unfolding plusGroup
