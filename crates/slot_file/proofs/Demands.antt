@@ -91,7 +91,7 @@ writes-nothing a buffer h =
     (refl, refl)
 
 -- what holds of each is kept where a list is turned round and mapped
-each-onto : {A B : Type 0} (P : B → Type 0) (f : A → B) (l m : List A) → Each (λ x. P (f x)) l → Each P (map f m) → Each P (map f (reverseAux l m))
+pub each-onto : {A B : Type 0} (P : B → Type 0) (f : A → B) (l m : List A) → Each (λ x. P (f x)) l → Each P (map f m) → Each P (map f (reverseAux l m))
 each-onto P f [] m h k = k
 each-onto P f (x ∷ l) m h k = each-onto P f l (x ∷ m) (h .1) (h .0, k)
 

@@ -1,4 +1,4 @@
--- The laws that belong to no one function. A reader of the letter wants Demands, one of older files Before.
+-- The laws that belong to no one function. A reader of the letter wants Demands, one of older files Before and Untimed.
 pub mod Asking
 pub mod SixRows
 pub mod Ranged
@@ -13,4 +13,5 @@ pub mod Units
 pub mod Agreement
 pub mod Demands
 pub mod Before
+pub mod Untimed
 pub mod Examples

@@ -4,7 +4,7 @@ use Prim.Native.Nat.{ℕ, _<_}
 use mathlib.Core.Path.{_≡_, ap, _∙_}
 use mathlib.Core.Bool.{Bool, true, false}
 use mathlib.Core.List.{List, [], _∷_, _++_}
-use lib.Dec.{leb, eqb}
+use lib.Dec.{eqb}
 use lib.ListN.{getD}
 use Rattle.sums.specs.Choice.{if_then_else}
 use Rattle.sums.proofs.Choices.{nth, allTo-of, listTo-at}
@@ -19,7 +19,7 @@ use Rattle.vehicles.proofs.Paper.{answered}
 use Rattle.locomotive_fields.specs.Fields.{locomotiveInRange, sharesAddUp}
 use Rattle.locomotives.specs.Rules.{locomotiveEmissions, locomotiveAnswer}
 use Rattle.slots.specs.Bytes.{byteAt, zeroFrom, slotOf}
-use Rattle.slots.specs.Layout.{groupOf, groupGood, groupRead, coefficientsOf, coefficientsGood, coefficientsRead, handlingOf, handlingGood, standingOf, standingGood, aspirationOf, aspirationGood, byKind, storeOf, storeGood, readBy, readStore, locomotiveOf, locomotiveGoodTests, locomotiveGood, locomotiveRead}
+use Rattle.slots.specs.Layout.{groupOf, groupGoodTests, groupGood, groupRead, coefficientsOf, coefficientsGood, coefficientsRead, handlingOf, handlingGood, standingOf, standingGood, aspirationOf, aspirationGood, byKind, storeOf, storeGood, readBy, readStore, locomotiveOf, locomotiveGoodTests, locomotiveGood, locomotiveRead}
 use Rattle.slots.specs.declared.store.StoreRecord.{StoreRecord}
 use Rattle.slots.specs.declared.store.StoreRecord.the-variants.{Handling, Standing, Aspiration}
 use Rattle.slots.specs.declared.store.StoreRead.the-variants.{Record}
@@ -46,7 +46,7 @@ module _ (s : List ℕ) (c : Chains) (g : ℕ) (a : AllYes (groupAsks s c g)) wh
   unfolding groupAsks linkAsks groupAt groupRead groupGood
   group-in-range =
       let t = slotOf s g in
-      nth (groupInRange (groupOf t) ∷ leb (byteAt t 5) 3 ∷ zeroFrom t 36 28 ∷ []) (yes-at (groupAsks s c g) a 3) 0
+      nth (groupGoodTests t (groupOf t)) (yes-at (groupAsks s c g) a 3) 0
 
   pub row-in-range : (p : ℕ) → p < pollutantCount → coefficientsInRange (getD (groupAt s g .coefficients) p noCoefficients) ≡ true
   unfolding coefficientAsks groupAt coefficientsRead coefficientsGood

@@ -82,6 +82,7 @@ groupFrom l controlled heated days = record {
   outward = record { nearest = record { 0 = getD l 8 0 }; farthest = record { 0 = getD l 9 0 } };
   inward = record { nearest = record { 0 = getD l 10 0 }; farthest = record { 0 = getD l 11 0 } };
   days = days;
+  timed = record { 0 = getD l 12 0 };
 }
 
 pub group-sound : (x y : VehicleGroup) → sameGroup x y ≡ true → x ≡ y

@@ -30,7 +30,7 @@ sameList same (x ∷ xs) (y ∷ ys) = same x y && sameList same xs ys
 abbrev pub groupFields : Group → List ℕ
 groupFields g =
     g .category ∷ g .fuel ∷ g .vehicles ∷ g .leaving ∷ g .share ∷ g .neutraliser .running ∷ g .neutraliser .warming ∷ g .idle .0
-    ∷ g .outward .nearest .0 ∷ g .outward .farthest .0 ∷ g .inward .nearest .0 ∷ g .inward .farthest .0 ∷ []
+    ∷ g .outward .nearest .0 ∷ g .outward .farthest .0 ∷ g .inward .nearest .0 ∷ g .inward .farthest .0 ∷ g .timed .0 ∷ []
 
 abbrev pub sameMinute : PerMinute → PerMinute → Bool
 sameMinute x y = eqb (x .0) (y .0)

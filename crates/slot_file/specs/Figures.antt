@@ -65,14 +65,17 @@ countsOf c = record { groups = length (c .groups); stores = length (c .stores); 
 
 -- the answer: a number and a slot, 0 and 0 of an accepted file; the figures by code; and, by the letter, "how many vehicle groups and store records were summed",
 -- with "a third count, the length of the locomotive chain"
-unfoldable pub summed : Inventory → Answer
-summed v = record {
+abbrev pub summedFrom : Inventory → List Contribution → Answer
+summedFrom v xs = record {
   number = 0;
   slot = 0;
-  annual = map (annualFigure (contributions v)) codes;
-  peak = map (peakFigure (contributions v)) codes;
+  annual = map (annualFigure xs) codes;
+  peak = map (peakFigure xs) codes;
   counts = record { groups = length (v .groups); stores = length (v .stores); locomotives = length (v .locomotives) };
 }
+
+unfoldable pub summed : Inventory → Answer
+summed v = summedFrom v (contributions v)
 
 -- "A refusal gives its number and a slot, with every figure and count zero"
 abbrev pub refusal : ℕ → ℕ → Answer

@@ -1,5 +1,5 @@
 -- What a slot file answers, by definition. A reader of 01 wants, in this order: Sources, Questions, Walk, Codes, Figures, Alike, Listing, Surveyed; Meaning says what an outcome
--- means in words that know no walk, Demands what the letter demands, and Before what 01 alone says. Parts has what the code's marks and sums hold.
+-- means in words that know no walk, Demands what the letter demands, Before what 01 alone says, and Untimed what was said before warm-ups were timed. Parts has what the code's marks and sums hold.
 pub mod Sources
 pub mod Questions
 pub mod Walk
@@ -11,4 +11,5 @@ pub mod Listing
 pub mod Surveyed
 pub mod Demands
 pub mod Before
+pub mod Untimed
 pub mod Parts

@@ -1,5 +1,5 @@
--- 01, "Surveyed examples": the starred rows, as files of bytes with what they print; locomotives by 000 and 02; and files for what 01, 02 and the letter say of
--- refusals, of lent buffers and of two desks.
+-- 01, "Surveyed examples": the starred rows, as files of bytes with what they print; locomotives by 000 and 02; timed warm-ups; and files for what 01, 02 and the
+-- letter say of refusals, of lent buffers and of two desks.
 use Prim.Native.Nat.{ℕ, _+_, _-_, _/_, _%_}
 use mathlib.Core.Path.{_≡_}
 use mathlib.Core.List.{List, [], _∷_, _++_, map, flatMap}
@@ -41,9 +41,12 @@ abbrev head : ℕ → ℕ → ℕ → List ℕ → List ℕ
 head n group store t = header n group store 0 t
 
 -- B's group, with its next index, flags and first coefficient slot: car, petrol, N 10, N' 4, a 50, both neutraliser factors 100, idle 1 min, distances 100 and 300 both ways, 20 days a month
+abbrev groupBytes : ℕ → ℕ → ℕ → List ℕ
+groupBytes next flags first =
+    two next ++ (1 ∷ 1 ∷ 1 ∷ flags ∷ []) ++ two 10 ++ two 4 ++ (50 ∷ 100 ∷ 100 ∷ 10 ∷ []) ++ two 100 ++ two 300 ++ two 100 ++ two 300 ++ replicate 12 20 ++ two first
+
 abbrev group : ℕ → ℕ → ℕ → List ℕ
-group next flags first =
-    slot (two next ++ (1 ∷ 1 ∷ 1 ∷ flags ∷ []) ++ two 10 ++ two 4 ++ (50 ∷ 100 ∷ 100 ∷ 10 ∷ []) ++ two 100 ++ two 300 ++ two 100 ++ two 300 ++ replicate 12 20 ++ two first)
+group next flags first = slot (groupBytes next flags first)
 
 -- coefficients of a pollutant, the same in the three periods, in ten-thousandths of a gram
 abbrev coefficients : ℕ → ℕ → ℕ → ℕ → ℕ → List ℕ
@@ -215,6 +218,29 @@ locomotives =
     (sheet (exhaust " 1.688400 1.4777778" " 8.607200 5.1166667" " 0.162400 0.1444444") 0 0 2)
     ∷ []
 
+-- ---- not of 01's examples: timed warm-ups, by hand from 01 and 02. B's yard with flags, timed, at a temperature; its CO has 4, 5 and 6 g a minute in the warm,
+-- transitional and cold period. A byte may follow
+abbrev stand : ℕ → List ℕ → List ℕ → List ℕ
+stand flags timed t =
+    head 8 1 0 t ++ slot (groupBytes 0 flags 2 ++ timed)
+    ++ slot (two 3 ++ (2 ∷ 1 ∷ []) ++ four 40000 ++ four 50000 ++ four 60000 ++ four 100000 ++ four 100000 ++ four 100000 ++ four 20000)
+    ++ coefficients 4 2 0 0 0 ++ coefficients 5 3 0 0 0 ++ coefficients 6 4 0 0 0 ++ coefficients 7 5 0 0 0 ++ coefficients 0 6 0 0 0
+
+abbrev timedStand : ℕ → ℕ → List ℕ → String → Row
+timedStand flags m t figures = given (stand flags (m ∷ []) t) (m over 10 ∷ []) (sheet (only 337 figures) 1 0 0)
+
+-- a vehicle's trip out has 10 × 0.2 + 2 × 1 = 4 g beside its warm-up, its way in has 4 g; 1,200 such days in the year, 4 trips out in 3,600 seconds
+unfoldable pub timedStands : List Row
+timedStands =
+    timedStand 0 1 (two 100) " 0.010080 0.0048889"  -- 0.4 + 4 out
+    ∷ timedStand 0 250 (two 100) " 0.129600 0.1155556"  -- 100 + 4 out
+    ∷ timedStand 0 30 (two 100) " 0.024000 0.0177778"  -- the table's 3 minutes: as B
+    ∷ timedStand 1 25 (two 100) " 0.018240 0.0128889"  -- with control: (10 + 2) × 0.8 + 2 out, 2 + 1.6 in
+    ∷ timedStand 0 25 (below 200) " 0.027600 0.0211111"  -- 2.5 minutes and not 15, of the cold period: 15 + 4 out
+    ∷ timedStand 2 25 (below 200) " 0.021600 0.0155556"  -- heated: 2.5 minutes and not 1.5, of the warm period: 10 + 4 out
+    ∷ given (stand 0 (0 ∷ []) (below 200)) (150 over 10 ∷ []) (sheet (only 337 " 0.117600 0.1044444") 1 0 0)  -- untimed: 90 + 4 out
+    ∷ []
+
 -- a listing of an answer in a lent buffer of n bytes, and B's: one byte too short, as long, and longer
 abbrev lentOf : Answer → ℕ → Listed
 lentOf a n = listed a (replicate n 7)
@@ -258,6 +284,8 @@ refusals =
     ∷ no (head 2 0 1 (two 0) ++ store 1 5 2 (air 1 1 0 1)) "refused 7 1\n"  -- a chain that comes back
     ∷ no (head 2 0 1 (two 0) ++ slot []) "refused 8 1\n"
     ∷ no (head 8 1 0 (two 0) ++ group 0 4 2 ++ pollutants 0 0) "refused 9 1\n"  -- a flag of no meaning
+    ∷ no (stand 0 (251 ∷ []) (two 0)) "refused 9 1\n"  -- a warm-up timed too long
+    ∷ no (stand 0 (25 ∷ 1 ∷ []) (two 0)) "refused 9 1\n"  -- a byte behind it
     ∷ no (head 2 1 0 (two 0) ++ group 0 0 0) "refused 10 1\n"  -- a zero link, at the group
     ∷ zeroAtRow
     ∷ no (head 3 1 0 (two 0) ++ group 0 0 2 ++ coefficients 2 1 0 0 0) "refused 10 2\n"  -- a pollutant out of turn

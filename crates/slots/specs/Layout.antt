@@ -1,4 +1,5 @@
--- 01, "The slot file": the fields of slot 0, a group, coefficients and a store record, by their byte positions; and 02, U1, those of a locomotive.
+-- 01, "The slot file": the fields of slot 0, a group, coefficients and a store record, by their byte positions; and 02, U1, those of a locomotive, and U2, one more
+-- of a group.
 use Prim.Native.Nat.{ℕ, _+_, _*_, _/_, _%_}
 use mathlib.Core.Path.{_≡_}
 use mathlib.Core.Bool.{Bool, true, _&&_, _||_}
@@ -55,7 +56,8 @@ unfoldable pub distancesAt : List ℕ → ℕ → Distances
 distancesAt t a = record { nearest = record { 0 = u16At t a }; farthest = record { 0 = u16At t (a + 2) } }
 
 -- "3 category ... 4 fuel ... 5 flags: bit 0 emission control done, bit 1 heated stand ... 6..7 vehicles N ... 8..9 most leaving in one hour N' ...
--- 10 leaving share a, 11 neutraliser factor for run and idle, 12 the same for warm-up ... 13 idle time ... 14..21 four distances"
+-- 10 leaving share a, 11 neutraliser factor for run and idle, 12 the same for warm-up ... 13 idle time ... 14..21 four distances"; 02, U2: "Group byte 36 holds
+-- tenths of a minute"
 unfoldable pub groupOf : List ℕ → Group
 groupOf t = record {
   category = byteAt t 3;
@@ -70,11 +72,15 @@ groupOf t = record {
   outward = distancesAt t 14;
   inward = distancesAt t 18;
   days = daysOf t;
+  timed = record { 0 = byteAt t 36 };
 }
 
 -- question 9 of a group: its fields, "the others zero" of the flags, and every byte that is not named
+abbrev pub groupGoodTests : List ℕ → Group → List Bool
+groupGoodTests t g = groupInRange g ∷ leb (byteAt t 5) 3 ∷ zeroFrom t 37 27 ∷ []
+
 unfoldable pub groupGood : List ℕ → Group → Bool
-groupGood t g = allOf (groupInRange g ∷ leb (byteAt t 5) 3 ∷ zeroFrom t 36 28 ∷ [])
+groupGood t g = allOf (groupGoodTests t g)
 
 -- "(byte 2 = 1)"
 abbrev pub groupKind : List ℕ → Bool

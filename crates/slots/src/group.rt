@@ -70,6 +70,7 @@ fn group_of(t: &[u8]) -> Group
         outward: distances_at(t, 14),
         inward: distances_at(t, 18),
         days: days_of(t),
+        timed: Minutes(numbers::long(t[36])),
     }
 }
 
@@ -77,7 +78,7 @@ fn group_good(t: &[u8], g: Group) -> bool
     requires { ⌜ length (now t) ≡ slotSize ⌝ }
     ensures { λ r. ⌜ r ≡ groupGood (now (t .entry)) g ⌝ }
 {
-    vehicle_fields::group_in_range(g) & (t[5] <= 3) & numbers::zero_from(t, 36, 28)
+    vehicle_fields::group_in_range(g) & (t[5] <= 3) & numbers::zero_from(t, 37, 27)
 }
 
 // What slot n of a file holds as a group.

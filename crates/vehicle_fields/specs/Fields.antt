@@ -1,7 +1,7 @@
--- 01, "The slot file", **Slot 0**, **Group** and **Coefficients**: the ranges of the fields.
+-- 01, "The slot file", **Slot 0**, **Group** and **Coefficients**, and 02, U2, of a group: the ranges of the fields.
 use Prim.Native.Nat.{ℕ}
 use mathlib.Core.Bool.{Bool, _&&_}
-use mathlib.Core.List.{List, [], _∷_, map}
+use mathlib.Core.List.{List, [], _∷_, _++_, map}
 use lib.Dec.{leb}
 use lib.IntN.{ℤ, pos, negℤ}
 use lib.ListN.{getD}
@@ -40,11 +40,15 @@ daysInRange days = allTo 12 (λ (m : ℕ). leb (getD days m 0) (getD monthLength
 
 -- "3 category, 1 car, 2 truck, 3 bus. 4 fuel, 1 petrol, 2 diesel ... 6..7 vehicles N, 1 to 10,000. 8..9 most leaving in one hour N', 0 to N.
 -- 10 leaving share a, 11 neutraliser factor for run and idle, 12 the same for warm-up, each 0 to 100 percent. 13 idle time, 0 to 250"
-abbrev pub groupTests : Group → List Bool
-groupTests g =
+abbrev pub untimedTests : Group → List Bool
+untimedTests g =
     leb 1 (g .category) ∷ leb (g .category) 3 ∷ leb 1 (g .fuel) ∷ leb (g .fuel) 2 ∷ leb 1 (g .vehicles) ∷ leb (g .vehicles) 10000
     ∷ leb (g .leaving) (g .vehicles) ∷ leb (g .share) 100 ∷ leb (g .neutraliser .running) 100 ∷ leb (g .neutraliser .warming) 100
     ∷ leb (g .idle .0) 250 ∷ distancesInRange (g .outward) ∷ distancesInRange (g .inward) ∷ daysInRange (g .days) ∷ []
+
+-- 02, U2: "Group byte 36 holds tenths of a minute, 1 to 250, or 0 for untimed"
+abbrev pub groupTests : Group → List Bool
+groupTests g = untimedTests g ++ leb (g .timed .0) 250 ∷ []
 
 unfoldable pub groupInRange : Group → Bool
 groupInRange g = allOf (groupTests g)

@@ -23,7 +23,7 @@ pub struct Neutraliser {
 }
 
 // Category: 1 car, 2 truck, 3 bus. Fuel: 1 petrol, 2 diesel. `controlled`: emission control is done. `heated`: a heated stand. `leaving`: the most
-// vehicles that leave in one hour. `share`: the percent that leave in a day. `days`: worked in each month.
+// vehicles that leave in one hour. `share`: the percent that leave in a day. `days`: worked in each month. `timed`: the warm-up as it was timed, or 0.
 pub struct Group {
     pub category: u8,
     pub fuel: u8,
@@ -37,6 +37,7 @@ pub struct Group {
     pub outward: Distances,
     pub inward: Distances,
     pub days: [u8; 12],
+    pub timed: Minutes,
 }
 
 // One pollutant's: warm-up and run in the warm, transitional and cold period, and idle.
@@ -89,6 +90,7 @@ pub fn group_in_range(g: Group) -> bool
         & distances_in_range(outward)
         & distances_in_range(inward)
         & days_in_range(days)
+        & (g.timed.0 <= 250)
 }
 
 pub fn coefficients_in_range(k: Coefficients) -> bool

@@ -60,7 +60,7 @@ module _ (f : Factors) (hf : factorsInRange f ≡ true) (g : Group) (ts : List �
       let a : yearParts g k y (activityOf f g (c .bands)) * g .share * g .vehicles ≤ 8928000000000000000000 =
       year-most g k y hg hk (control-most f hf g p) (activityOf f g (c .bands)) (activity-in-range g hg f hf (c .bands)) ⊗ r .share ⊗ r .vehicles in
       let b : outParts g k y (conditionsIn f g (c .coldest)) * g .leaving ≤ 150000000000000000 =
-      out-most g k y hg hk (control-most f hf g p) (conditionsIn f g (c .coldest)) (conditions-in-range f hf g (c .coldest)) ⊗ r .leaving in
+      out-most g k y hg hk (control-most f hf g p) (conditionsIn f g (c .coldest)) (conditions-in-range f hf g (r .timed) (c .coldest)) ⊗ r .leaving in
       bounded emissionCount (counted f g ts k p) (omega arith) (omega arith)
 
   emission-exactly : Exactly (emitted (contributionBy f g ts k p)) (contributionBy f g ts k p .tonnes) (contributionBy f g ts k p .rate)

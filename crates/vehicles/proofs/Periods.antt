@@ -81,7 +81,7 @@ module _ (g : Group) (h : groupInRange g ≡ true) where
 
   module _ (f : Factors) (hf : factorsInRange f ≡ true) (bs : List ℕ) where
     pub warmup-most : (m : ℕ) → m < 12 → monthWarmup f g bs m ≤ 9300
-    warmup-most m p = days (g .days) (ranged g h .days) m p ⊗ tenths-most f hf g (getD bs m 0)
+    warmup-most m p = days (g .days) (ranged g h .days) m p ⊗ tenths-most f hf g (ranged g h .timed) (getD bs m 0)
 
     pub activity-in-range : ActivityInRange (activityOf f g bs)
     unfolding activityOf listTo sumTo

@@ -40,6 +40,7 @@ pub record Ranged (g : Group) : Type 0 where
   pub outward : distancesInRange (g .outward) ≡ true
   pub inward : distancesInRange (g .inward) ≡ true
   pub days : daysInRange (g .days) ≡ true
+  pub timed : g .timed .0 ≤ 250
 
 pub ranged : (g : Group) → groupInRange g ≡ true → Ranged g
 unfolding groupInRange
@@ -54,6 +55,7 @@ ranged g h =
       outward = t 11;
       inward = t 12;
       days = t 13;
+      timed = leb-true (g .timed .0) 250 (t 14);
     }
 
 pub days : (l : List ℕ) → daysInRange l ≡ true → (m : ℕ) → m < 12 → getD l m 0 ≤ 31

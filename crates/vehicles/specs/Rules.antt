@@ -70,10 +70,13 @@ dieselCodes = 337 ∷ 2754 ∷ 301 ∷ 328 ∷ 330 ∷ 184 ∷ []
 unfoldable pub pollutantCode : ℕ → ℕ → ℕ
 pollutantCode fuel p = if_then_else (eqb fuel 1) (getD petrolCodes p 0) (getD dieselCodes p 0)
 
--- what a group gives of the pollutant at place p, which has the coefficients k: by factors, and by the standard ones
+-- what a group gives of the pollutant at place p, which has the coefficients k: with warm-up minutes, by factors, and by the standard ones
+abbrev pub contributionWith : (ℤ → Frac) → Factors → Group → List ℤ → Coefficients → ℕ → Contribution
+contributionWith minutes f g ts k p =
+    contribution (pollutantCode (g .fuel) p) (annualTonnes minutes g ts k (controlOf f g p)) (peakGrams minutes g k (controlOf f g p) (lowestOf ts))
+
 abbrev pub contributionBy : Factors → Group → List ℤ → Coefficients → ℕ → Contribution
-contributionBy f g ts k p =
-    contribution (pollutantCode (g .fuel) p) (annualTonnes (minutesAt f g) g ts k (controlOf f g p)) (peakGrams (minutesAt f g) g k (controlOf f g p) (lowestOf ts))
+contributionBy f g = contributionWith (minutesAt f g) f g
 
 abbrev pub contributionOf : Group → List ℤ → Coefficients → ℕ → Contribution
 contributionOf = contributionBy standardFactors

@@ -4,12 +4,13 @@ use native.Mathlib.Omega.{arith}
 use mathlib.Core.Path.{_≡_, refl, ap}
 use mathlib.Core.Bool.{Bool, true, false}
 use mathlib.Core.List.{List}
-use borrow.Author.Tests.{ltb-true, le-ltb}
+use borrow.Author.Tests.{ltb-true, le-ltb, ne-eqb}
 use lib.Dec.{ltb, eqb, lit<}
 use lib.IntN.{ℤ, pos}
 use lib.ListN.{getD}
 use lib.Signed.{ltZ}
 use Rattle.sums.specs.Choice.{if_then_else, listTo}
+use Rattle.sums.specs.Fraction.{_over_}
 use Rattle.sums.proofs.Choices.{no, cases, both, listTo-at}
 use Rattle.vehicle_fields.specs.Fields.{minus}
 use Rattle.vehicle_fields.specs.declared.group.Group.{Group}
@@ -17,7 +18,7 @@ use Rattle.vehicle_factors.specs.Factors.{factorsInRange}
 use Rattle.vehicle_factors.specs.declared.Factors.{Factors}
 use Rattle.vehicle_factors.proofs.Ranges.{ranged-factors}
 use Rattle.warmups.specs.Temperatures.{below, place, periodOf, warmupBand}
-use Rattle.warmups.specs.Warmup.{timesOf, tenthsIn, periodAt}
+use Rattle.warmups.specs.Warmup.{timesOf, untimedIn, untimedAt, tenthsIn, minutesAt, periodAt}
 use Rattle.warmups.specs.Parts.{climateOf, bandPeriod, periodIn, conditionsIn, ConditionsInRange}
 
 -- both are counted from 5.0 and then from -5.0
@@ -50,14 +51,27 @@ period-below g band = both Three (g .heated) (lit< tt) (cases Three (ltb band 2)
 abbrev Most : ℕ → Type 0
 Most n = n ≤ 300
 
-module _ (f : Factors) (h : factorsInRange f ≡ true) (g : Group) (band : ℕ) where
-  pub tenths-most : tenthsIn f g band ≤ 300
-  unfolding tenthsIn timesOf
-  tenths-most =
+module _ (f : Factors) (h : factorsInRange f ≡ true) (g : Group) (t : g .timed .0 ≤ 250) (band : ℕ) where
+  untimed-most : untimedIn f g band ≤ 300
+  unfolding untimedIn timesOf
+  untimed-most =
       let r = ranged-factors f h in
       let At : List ℕ → Type 0 = λ (l : List ℕ). Most (getD l band 0) in
       both Most (g .heated) (omega arith) (both At (eqb (g .category) 1) (r .car band) (both At (eqb (g .category) 2) (r .truck band) (r .bus band)))
 
+  pub tenths-most : tenthsIn f g band ≤ 300
+  unfolding tenthsIn
+  tenths-most = both Most (eqb (g .timed .0) 0) untimed-most (omega arith)
+
   pub conditions-in-range : ConditionsInRange (conditionsIn f g band)
   unfolding conditionsIn
   conditions-in-range = record { period = period-below g band; minutes = tenths-most }
+
+-- THE MINUTES of an untimed group are those of the table, or the heated stand's 1.5; those of a timed one are its own, at every temperature
+pub untimed : (f : Factors) (g : Group) → g .timed .0 ≡ 0 → (t : ℤ) → minutesAt f g t ≡ untimedAt f g t
+unfolding minutesAt tenthsIn if_then_else
+untimed f g e t = rw e
+
+pub timed : (f : Factors) (g : Group) → (g .timed .0 ≡ 0 → ⊥) → (t : ℤ) → minutesAt f g t ≡ (g .timed .0 over 10)
+unfolding minutesAt tenthsIn if_then_else
+timed f g e t = rw (ne-eqb (g .timed .0) 0 e)

@@ -1,4 +1,5 @@
--- 01, "Vehicle rules": warm-up minutes over table 9 of SO 153-34.02.317-2003 (source document 000), which is a part of the factors, and heated stands.
+-- 01, "Vehicle rules": warm-up minutes over table 9 of SO 153-34.02.317-2003 (source document 000), which is a part of the factors, and heated stands; and 02, U2,
+-- timed warm-ups.
 use Prim.Native.Nat.{ℕ}
 use mathlib.Core.List.{List}
 use lib.Dec.{eqb}
@@ -15,12 +16,19 @@ unfoldable pub timesOf : Factors → ℕ → List ℕ
 timesOf f category = if_then_else (eqb category 1) (f .car) (if_then_else (eqb category 2) (f .truck) (f .bus))
 
 -- "Warm-up minutes (000 Table 9 ...)" at a band of temperature, in tenths; "A heated stand has 1.5 minutes ... all year (003)"
+unfoldable pub untimedIn : Factors → Group → ℕ → ℕ
+untimedIn f g band = if_then_else (g .heated) 15 (getD (timesOf f (g .category)) band 0)
+
+abbrev pub untimedAt : Factors → Group → ℤ → Frac
+untimedAt f g t = untimedIn f g (warmupBand t) over 10
+
+-- 02, U2: "tenths of a minute, 1 to 250, or 0 for untimed. A timed value replaces the table and the heated stand's 1.5 minutes"
 unfoldable pub tenthsIn : Factors → Group → ℕ → ℕ
-tenthsIn f g band = if_then_else (g .heated) 15 (getD (timesOf f (g .category)) band 0)
+tenthsIn f g band = if_then_else (eqb (g .timed .0) 0) (untimedIn f g band) (g .timed .0)
 
 unfoldable pub minutesAt : Factors → Group → ℤ → Frac
 minutesAt f g t = tenthsIn f g (warmupBand t) over 10
 
--- "A heated stand has ... warm-period coefficients all year (003)"
+-- "A heated stand has ... warm-period coefficients all year (003)", and timed "the heated stand's warm coefficients stay"
 unfoldable pub periodAt : Group → ℤ → ℕ
 periodAt g t = if_then_else (g .heated) 0 (periodOf t)

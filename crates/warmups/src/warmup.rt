@@ -1,8 +1,8 @@
-// Warm-up minutes, and heated stands.
+// Warm-up minutes, heated stands, and timed warm-ups.
 ghost use mathlib.Core.Path.{_≡_};
 ghost use Prim.Native.Nat.{_<_};
 ghost use lib.ListN.{getD};
-ghost use Rattle.warmups.specs.Warmup.{timesOf, tenthsIn};
+ghost use Rattle.warmups.specs.Warmup.{timesOf, untimedIn, tenthsIn};
 ghost use Rattle.warmups.specs.Parts.{tenths, bandPeriod, periodIn, conditionsIn};
 use vehicle_factors::BANDS;
 use vehicle_factors::Factors;
@@ -33,13 +33,24 @@ fn time_at(times: [u16; BANDS], band: u8) -> u32
     if at < BANDS { times[at] as u32 } else { 0 }
 }
 
-fn minutes_in(f: Factors, g: Group, band: u8) -> Minutes
-    ensures { λ r. ⌜ r ≡ tenths (tenthsIn f g band) ⌝ }
+fn untimed_in(f: Factors, g: Group, band: u8) -> Minutes
+    ensures { λ r. ⌜ r ≡ tenths (untimedIn f g band) ⌝ }
 {
     if g.heated {
         Minutes(15)
     } else {
         Minutes(time_at(times_of(f, g.category), band))
+    }
+}
+
+fn minutes_in(f: Factors, g: Group, band: u8) -> Minutes
+    ensures { λ r. ⌜ r ≡ tenths (tenthsIn f g band) ⌝ }
+{
+    let timed = g.timed;
+    if 0 < timed.0 {
+        timed
+    } else {
+        untimed_in(f, g, band)
     }
 }
 

@@ -10,7 +10,8 @@ use Rattle.slots.proofs.group.group_of.Tie as tie
 returns : tie.Need-returns
 unfolding groupOf
 returns c =
-    let d = c .before .before in
+    let days = c .before .before in
+    let d = days .before .before in
     let n = d .before in
     let v = n .before .before .before .before .before in
     let u = v .before in
@@ -27,11 +28,12 @@ returns c =
       neutraliser = record { running = byteAt t 11; warming = byteAt t 12 };
       idle = record { 0 = n .long .ensures i };
       outward = d .distances-at .ensures i;
-      inward = c .before .distances-at2 .ensures i;
-      days = c .days-of .ensures i;
+      inward = days .before .distances-at2 .ensures i;
+      days = days .days-of .ensures i;
+      timed = record { 0 = c .long2 .ensures i };
     }
 
 pub group-of-spec : {M : Type 1} → statement M
 group-of-spec =
     tie.close
-    (tie.spec (omega arith) (omega arith) (omega arith) (omega arith) (omega arith) (omega arith) (omega arith) (omega arith) (omega arith) (omega arith) (omega arith) (omega arith) (omega arith) (omega arith) returns)
+    (tie.spec (omega arith) (omega arith) (omega arith) (omega arith) (omega arith) (omega arith) (omega arith) (omega arith) (omega arith) (omega arith) (omega arith) (omega arith) (omega arith) (omega arith) (omega arith) (omega arith) returns)

@@ -9,4 +9,6 @@ unfolding groupInRange
 group-in-range-spec =
     tie.close
     (tie.spec (omega arith) (omega arith) (omega arith)
-    (λ c. rw (c .before .before .distances-in-range .ensures, c .before .distances-in-range2 .ensures, c .days-in-range .ensures)))
+    (λ c.
+    let d = c .before in
+    rw (d .before .before .distances-in-range .ensures, d .before .distances-in-range2 .ensures, d .days-in-range .ensures)))

@@ -41,7 +41,7 @@ warmup-fits c κs =
     let w = a .conditions-in .ensures in (
       rw (b .loop .inv .3 _ (w .1))
           (omega (arith, alone g bs (monthWarmup (s .args .f) g bs) 9300 (b .loop .i) (λ m l. warmup-most g (s .pre .1) (s .args .f) (s .pre .0) bs m (of-year b m l)) (a .conditions-in .result .period))),
-      rw (w .0) (omega (arith, conditions-in-range (s .args .f) (s .pre .0) g (getD bs (b .loop .i) 0) .minutes)),
+      rw (w .0) (omega (arith, conditions-in-range (s .args .f) (s .pre .0) g (ranged g (s .pre .1) .timed) (getD bs (b .loop .i) 0) .minutes)),
     )
 
 run-fits : tie.Need-more-metres-requires Inv-loop μ-loop

@@ -10,7 +10,7 @@ use Rattle.warmups.specs.Parts.{conditionsIn}
 use Rattle.warmups.proofs.Conditions.{conditions-in-range}
 use Rattle.vehicles.specs.Rules.{emissionCount}
 use Rattle.vehicles.specs.Parts.{activityOf, emissionParts, emissionsIn}
-use Rattle.vehicles.proofs.Ranges.{of-six}
+use Rattle.vehicles.proofs.Ranges.{ranged, of-six}
 use Rattle.vehicles.proofs.Periods.{activity-in-range}
 use Rattle.vehicles.proofs.rule.emissions_in.Statement.{statement}
 use Rattle.vehicles.proofs.rule.emissions_in.Tie as tie
@@ -46,7 +46,7 @@ emission-of-requires c κs =
       of-six (x .t4) (s .pre .2) (b .loop .p) (omega arith),
       omega arith,
       rw (at-activity b .activity-of .ensures) (activity-in-range (x .g) (s .pre .1) (x .f) (s .pre .0) _),
-      rw (at-coldest b .conditions-in .ensures .0) (conditions-in-range (x .f) (s .pre .0) (x .g) _),
+      rw (at-coldest b .conditions-in .ensures .0) (conditions-in-range (x .f) (s .pre .0) (x .g) (ranged (x .g) (s .pre .1) .timed) _),
     )
 
 loop-again : tie.Need-loop-again Inv-loop μ-loop

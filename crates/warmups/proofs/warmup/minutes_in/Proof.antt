@@ -1,8 +1,8 @@
--- A heated stand has 15 tenths, another what its row says.
+-- A timed value is above 0, and replaces what an untimed group has.
 use native.Mathlib.Omega.{arith}
 use mathlib.Core.Path.{refl, ap, _∙_}
-use mathlib.Core.List.{List}
-use lib.ListN.{getD}
+use borrow.Author.Tests.{eq-eqb, ne-eqb}
+use Rattle.vehicle_fields.specs.declared.units.Minutes.{Minutes}
 use Rattle.sums.proofs.Choices.{yes, no}
 use Rattle.warmups.specs.Warmup.{tenthsIn}
 use Rattle.warmups.specs.Parts.{tenths}
@@ -13,8 +13,8 @@ pub minutes-in-spec : {M : Type 1} → statement M
 unfolding tenthsIn
 minutes-in-spec =
     tie.close
-    (tie.spec (omega arith) (omega arith)
-    (λ c. ap tenths (yes _ _ _ _ (c .if1 .taken) refl))
+    (tie.spec (omega arith)
+    (λ c. let g = c .before .before .before .args .g in ap tenths (no _ _ _ _ (ne-eqb (g .timed .0) 0 (omega arith)) refl))
     (λ c.
-    let b = c .before .before in
-    ap tenths (no _ _ _ _ (b .if1 .left) (c .time-at .ensures ∙ ap (λ l. getD l (b .before .args .band) 0) (c .before .times-of .ensures)))))
+    let g = c .before .before .before .before .args .g in
+    ap tenths (yes _ _ _ _ (eq-eqb (g .timed .0) 0 (omega arith)) (ap (λ (m : Minutes). m .0) (c .untimed-in .ensures)))))
