@@ -1,4 +1,4 @@
-//! Reading the fields of a slot (01, "The slot file"; 02, U1).
+//! Reading the fields of a slot (01, "The slot file"; 02, U1 and U2).
 
 use crate::locomotives::Locomotive;
 use crate::stores::{Aspiration, Bulk, Handling, Standing, Store};
@@ -91,7 +91,8 @@ pub fn first_coefficients(slot: &Slot) -> u16 {
     number2(slot, 34)
 }
 
-/// "Group (byte 2 = 1): 3 category", and on to "22..33 days worked per month".
+/// "Group (byte 2 = 1): 3 category", and on to "22..33 days worked per month"; "Group byte 36 holds
+/// tenths of a minute".
 pub fn group(slot: &Slot) -> Group {
     Group {
         category: byte(slot, 3),
@@ -103,6 +104,7 @@ pub fn group(slot: &Slot) -> Group {
         neutraliser: byte(slot, 11),
         warm_up_neutraliser: byte(slot, 12),
         idle_time: byte(slot, 13),
+        timed: byte(slot, 36),
         distances: std::array::from_fn(|i| wide2(slot, 14 + 2 * i)),
         days: std::array::from_fn(|month| byte(slot, 22 + month)),
     }
@@ -110,7 +112,7 @@ pub fn group(slot: &Slot) -> Group {
 
 /// "Bytes not named are zero", of a group.
 pub fn group_rest_zero(slot: &Slot) -> bool {
-    zero(&slot[36..])
+    zero(&slot[37..])
 }
 
 /// "Then from 4 seven 4-byte numbers": warm-up in three periods, run in three, idle.

@@ -1,10 +1,10 @@
-//! The rule of vehicle groups (01, "Vehicle rules").
+//! The rule of vehicle groups (01, "Vehicle rules"; 02, U2).
 
 use crate::codes;
 use crate::sums::Emission;
 use crate::Refusal;
 
-/// A vehicle group, with the ranges of 01, "Group".
+/// A vehicle group, with the ranges of 01, "Group", and of 02, U2.
 #[derive(Clone, Copy, Debug, PartialEq, Eq)]
 pub struct Group {
     /// 1 car, 2 truck, 3 bus.
@@ -25,6 +25,8 @@ pub struct Group {
     pub warm_up_neutraliser: u32,
     /// Tenths of a minute.
     pub idle_time: u32,
+    /// Timed warm-up, "tenths of a minute, 1 to 250, or 0 for untimed".
+    pub timed: u32,
     /// Metres: out from nearest, out from farthest, in to nearest, in to farthest.
     pub distances: [u32; 4],
     /// Days worked in each month, January first.
@@ -141,7 +143,8 @@ impl Coefficients {
 }
 
 impl Group {
-    /// "3 category, 1 car, 2 truck, 3 bus" and on, to the days worked per month.
+    /// "3 category, 1 car, 2 truck, 3 bus" and on, to the days worked per month, and the timed
+    /// warm-up: "Question 9 covers the byte."
     pub(crate) fn in_range(&self) -> bool {
         (1..=3).contains(&self.category)
             && (1..=2).contains(&self.fuel)
@@ -152,6 +155,7 @@ impl Group {
             && self.neutraliser <= 100
             && self.warm_up_neutraliser <= 100
             && self.idle_time <= 250
+            && self.timed <= 250
             && self.distances.iter().all(|&d| d <= 20_000)
             && self.days.iter().zip(MONTH_LENGTHS).all(|(&d, l)| d <= l)
     }
@@ -173,15 +177,20 @@ impl Group {
     }
 
     /// Period and warm-up time, in tenths of a minute, of a month. "A heated stand has 1.5 minutes
-    /// and warm-period coefficients all year (003)."
+    /// and warm-period coefficients all year (003)." "A timed value replaces the table and the heated
+    /// stand's 1.5 minutes; the heated stand's warm coefficients stay."
     fn warm_up(&self, temperature: i32) -> (usize, u64) {
-        if self.heated() {
+        let (period, untimed) = if self.heated() {
             (0, 15)
         } else {
             (
                 period(temperature),
                 warm_up_minutes(self.category, temperature) * 10,
             )
+        };
+        match self.timed {
+            0 => (period, untimed),
+            timed => (period, u64::from(timed)),
         }
     }
 

@@ -15,6 +15,7 @@ const CAR: Group = Group {
     neutraliser: 100,
     warm_up_neutraliser: 100,
     idle_time: 10,
+    timed: 0,
     distances: [100, 300, 100, 300],
     days: [20; 12],
 };
