@@ -12,7 +12,7 @@ use crate::random::Random;
 type Damage = fn(&mut Random, &mut Layout) -> bool;
 
 /// Each entry is as likely as another; those that a file rarely has a place for stand more than once.
-const DAMAGES: [Damage; 26] = [
+const DAMAGES: [Damage; 27] = [
     head::length,
     head::format,
     head::count,
@@ -30,6 +30,7 @@ const DAMAGES: [Damage; 26] = [
     slots::past_range,
     slots::past_range,
     slots::past_range,
+    slots::timed,
     slots::unnamed_byte,
     slots::pollutant,
     slots::soot_or_lead,

@@ -42,6 +42,9 @@ const fn banded(at: usize, width: usize, low: u32, high: u32, edges: &'static [u
 pub const VEHICLES: Field = field(6, 2, 1, 10_000);
 pub const LEAVING: usize = 8;
 
+/// A warm-up that was timed; 0 says that it was not.
+pub const TIMED: Field = field(36, 1, 1, 250);
+
 const GROUP_FIELDS: [Field; 24] = [
     field(3, 1, 1, 3),
     field(4, 1, 1, 2),
@@ -137,7 +140,8 @@ const LOCOMOTIVE_FIELDS: [Field; 9] = [
     field(17, 1, 1, 3),
 ];
 
-/// The fields of a kind with a range of their own: no links, no pollutant, no N'.
+/// The fields of a kind with a range of their own, but for a timed warm-up: no links, no pollutant,
+/// no N'.
 pub fn fields(kind: u8) -> &'static [Field] {
     match kind {
         GROUP => &GROUP_FIELDS,
@@ -153,7 +157,7 @@ pub fn fields(kind: u8) -> &'static [Field] {
 /// The bytes of a kind that no field has.
 pub fn unnamed(kind: u8) -> impl Iterator<Item = usize> {
     let first = match kind {
-        GROUP => 36,
+        GROUP => 37,
         COEFFICIENTS => 32,
         HANDLING | STANDING => 24,
         LOCOMOTIVE => 18,

@@ -7,7 +7,7 @@ use crate::fields::{
 use crate::layout::lay_out_rows_once;
 use crate::locomotives::locomotive;
 use crate::random::Random;
-use crate::sources::{drawn, zero_for, Group, Inventory, Rows};
+use crate::sources::{drawn, time, zero_for, Group, Inventory, Rows};
 
 /// How many sources a plant has, and how many sets of coefficients its groups have between them:
 /// one at least where there are groups, and at most as many as groups.
@@ -41,6 +41,11 @@ pub fn plant(seed: u64, size: Size) -> Vec<u8> {
     };
     for index in 0..size.groups {
         add_group(&mut random, &mut inventory, index, size.sets);
+    }
+    // numbers of their own, so that all else in the file is the same whatever is timed
+    let mut timing = Random::new(!seed, size.slots() as u64);
+    for group in &mut inventory.groups {
+        time(&mut timing, &mut group.slot, Style::Mixed);
     }
     for index in 0..size.stores {
         let kind = [HANDLING, STANDING, ASPIRATION][index % 3];

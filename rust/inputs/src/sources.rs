@@ -2,7 +2,7 @@
 
 use crate::fields::{
     fields, write, Slot, Style, ASPIRATION, COEFFICIENTS, GROUP, HANDLING, K6, LEAVING, SLOT,
-    STANDING, VEHICLES,
+    STANDING, TIMED, VEHICLES,
 };
 use crate::locomotives::locomotive;
 use crate::random::Random;
@@ -173,8 +173,8 @@ fn temperature(random: &mut Random) -> i16 {
     }
 }
 
-/// A slot of the kind with its fields drawn, without links, pollutant and N', and with shares of any
-/// total.
+/// A slot of the kind with its fields drawn, without links, pollutant, N' and a timed warm-up, and
+/// with shares of any total.
 pub fn drawn(random: &mut Random, kind: u8, style: Style) -> Slot {
     let mut slot = [0; SLOT];
     slot[2] = kind;
@@ -216,8 +216,17 @@ fn add_group(random: &mut Random, inventory: &mut Inventory, style: Style) {
         _ => random.within(0, vehicles),
     };
     write(&mut slot, LEAVING, 2, leaving);
+    time(random, &mut slot, style);
     let rows = rows_for(random, inventory, style, u32::from(slot[4]));
     inventory.groups.push(Group { slot, rows });
+}
+
+/// Gives half of the groups a timed warm-up.
+pub fn time(random: &mut Random, group: &mut Slot, style: Style) {
+    if random.once_in(2) {
+        let tenths = TIMED.draw(random, style);
+        write(group, TIMED.at, TIMED.width, tenths);
+    }
 }
 
 /// The pollutant that is zero throughout for this fuel.

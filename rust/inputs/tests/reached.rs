@@ -13,6 +13,11 @@ const COEFFICIENTS: u8 = 2;
 const STORES: [u8; 3] = [3, 4, 5];
 const LOCOMOTIVE: u8 = 6;
 
+/// In a group: its flags and the one of a heated stand, and its timed warm-up.
+const FLAGS: usize = 5;
+const HEATED: u8 = 2;
+const TIMED: usize = 36;
+
 fn inputs() -> impl Iterator<Item = Input> {
     (0..FILES).map(|index| input(SEED, index))
 }
@@ -66,6 +71,42 @@ fn a_sound_file_is_accepted_and_its_twin_has_the_same_answer() {
 fn every_number() {
     let numbers: BTreeSet<u8> = refused().map(|(_, refusal)| refusal.number).collect();
     assert_eq!(numbers, (1..=12).chain([14]).collect());
+}
+
+/// Of accepted groups, heated and not, half are untimed, and many are timed at an end of the range.
+#[test]
+fn timed_warm_ups() {
+    let mut met = [[0; 256]; 2];
+    for input in inputs().filter(|input| input.sound) {
+        let slots = input.file.chunks(64).skip(1);
+        for group in slots.filter(|slot| slot[2] == GROUP) {
+            let heated = usize::from(group[FLAGS] & HEATED != 0);
+            met[heated][usize::from(group[TIMED])] += 1;
+        }
+    }
+    for groups in met {
+        let all: u32 = groups.iter().sum();
+        assert!((4 * all..6 * all).contains(&(10 * groups[0])));
+        for edge in [1, 250] {
+            assert!(groups[edge] > all / 50, "{} of {all}", groups[edge]);
+        }
+        assert!(groups[..=250].iter().filter(|&&count| count > 0).count() > 200);
+    }
+}
+
+/// 9 at a group by a timed warm-up past its range, and by the bytes behind it.
+#[test]
+fn nine_from_byte_36() {
+    let (mut past, mut behind) = (BTreeSet::new(), BTreeSet::new());
+    for (file, refusal) in refused() {
+        if refusal.number == 9 && kind(&file, refusal) == GROUP {
+            let slot = &file[64 * usize::from(refusal.slot)..][..64];
+            past.extend((251..=255).filter(|&tenths| tenths == slot[TIMED]));
+            behind.extend((37..64).filter(|&at| slot[at] != 0));
+        }
+    }
+    assert_eq!(past, (251..=255).collect());
+    assert!(behind.contains(&37) && behind.len() > 20, "{behind:?}");
 }
 
 /// Each question of the locomotive chain, 7 with a slot of each chain.

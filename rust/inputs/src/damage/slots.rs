@@ -2,7 +2,7 @@
 
 use super::{any_slot, nonzero_byte, whole};
 use crate::fields::{
-    fields, read2, unnamed, write, GROUP, K6, LEAVING, SHARES, SLOT, STANDING, VEHICLES,
+    fields, read2, unnamed, write, GROUP, K6, LEAVING, SHARES, SLOT, STANDING, TIMED, VEHICLES,
 };
 use crate::layout::Layout;
 use crate::random::Random;
@@ -48,6 +48,18 @@ fn past_high(random: &mut Random, high: u32, width: usize) -> u32 {
         1 => random.within(high, most),
         _ => most.min(high.saturating_add(1)),
     }
+}
+
+/// A timed warm-up past its range.
+pub fn timed(random: &mut Random, layout: &mut Layout) -> bool {
+    let groups = whole(layout, &layout.groups);
+    if groups.is_empty() {
+        return false;
+    }
+    let past = random.within(TIMED.high + 1, 255);
+    let slot = layout.slot(random.pick(&groups));
+    write(slot, TIMED.at, TIMED.width, past);
+    true
 }
 
 pub fn unnamed_byte(random: &mut Random, layout: &mut Layout) -> bool {
