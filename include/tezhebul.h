@@ -92,6 +92,8 @@ bool tezhebul_aspiration(uint8_t dust, uint16_t store, uint32_t concentration, u
      running       the neutraliser's factor for run and idle, percent, 0 to 100
      warming       the same for warm-up
      idle          tenths of a minute, 0 to 250
+     timed         the warm-up as the drivers timed it, tenths of a minute, 1 to 250, at every temperature; or 0 where it was not timed, and it lasts the minutes
+                   of the papers' table, or the 1.5 of a heated stand
      distances     metres, 0 to 20,000: out from nearest, out from farthest, in to nearest, in to farthest
      days          worked in each month, January first, at most its length, February's 29
      temperatures  tenths of a degree Celsius, each month's mean, -600 to 600
@@ -105,8 +107,9 @@ bool tezhebul_aspiration(uint8_t dust, uint16_t store, uint32_t concentration, u
 #define TEZHEBUL_COEFFICIENTS (7 * TEZHEBUL_POLLUTANTS)
 
 bool tezhebul_group(uint8_t category, uint8_t fuel, uint8_t flags, uint16_t vehicles, uint16_t leaving, uint8_t share, uint8_t running, uint8_t warming,
-                    uint32_t idle, const uint32_t *distances, size_t distances_length, const uint8_t *days, size_t days_length, const int16_t *temperatures,
-                    size_t temperatures_length, const uint32_t *coefficients, size_t coefficients_length, uint64_t *out, size_t out_length);
+                    uint32_t idle, uint32_t timed, const uint32_t *distances, size_t distances_length, const uint8_t *days, size_t days_length,
+                    const int16_t *temperatures, size_t temperatures_length, const uint32_t *coefficients, size_t coefficients_length, uint64_t *out,
+                    size_t out_length);
 
 /* Locomotives: three emissions, CO, NO2, soot. 14 where each field is in range and the five shares do not total 1,000. False, and nothing written, where `out`
    has room for fewer than TEZHEBUL_LOCOMOTIVE_NUMBERS.

@@ -98,6 +98,7 @@ extern "C" {
         running: u8,
         warming: u8,
         idle: u32,
+        timed: u32,
         distances: *const u32,
         distances_length: usize,
         days: *const u8,
@@ -196,6 +197,7 @@ pub fn group(source: &Group, temperatures: &[i16], coefficients: &[u32], out: &m
             source.running,
             source.warming,
             source.idle,
+            source.timed,
             source.distances.as_ptr(),
             source.distances.len(),
             source.days.as_ptr(),
@@ -328,6 +330,7 @@ mod tests {
         running: 0,
         warming: 0,
         idle: 0,
+        timed: 0,
         distances: [0; 4],
         days: [0; 12],
     };

@@ -68,6 +68,20 @@ fn an_empty_slice() {
     assert_eq!(list(&[], &mut []), refused(1, 0));
 }
 
+/// Row B with byte 36 of its group, slot 1: 7.0 minutes by 4 g and 4 g more out, 4 g in.
+#[test]
+fn a_timed_warm_up() {
+    let mut file = stored("crates/inventory/stdin");
+    file[64 + 36] = 70;
+    let mut timed = answer_of_b();
+    (timed.annual[5], timed.peak[5]) = (43_200, 355_556);
+    assert_eq!(answer(&file), Ok(timed));
+    file[64 + 36] = 251;
+    assert_eq!(answer(&file), refused(9, 1));
+    file[64 + 36..64 + 38].copy_from_slice(&[0, 1]);
+    assert_eq!(answer(&file), refused(9, 1));
+}
+
 /// The group's category, byte 3 of slot 1, is made 4.
 #[test]
 fn refused_by_number_and_slot() {

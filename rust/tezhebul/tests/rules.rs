@@ -1,4 +1,5 @@
-//! The rules, by the surveyed examples of the scope paper: rows E to J of stores, B to D of groups.
+//! The rules, by the surveyed examples of the scope paper: rows E to J of stores, B to D of groups;
+//! and timed warm-ups by hand.
 
 use tezhebul::{
     aspiration, group, handling, standing, Aspiration, Bulk, Coefficients, Emission, Exact, Group,
@@ -66,6 +67,7 @@ const CAR: Group = Group {
     running: 100,
     warming: 100,
     idle: 10,
+    timed: 0,
     distances: [100, 300, 100, 300],
     days: [20; 12],
 };
@@ -218,6 +220,55 @@ fn car_with_control_and_heated() {
     }
 }
 
+/// Row B with warm-up 4, 5, 6 g a minute and run 10, 11, 12 g a kilometre by period. Out is warm-up ×
+/// minutes + run × 0.2 + 2, in the same without warm-up; 5 cars on 240 days, 4 leave in the hour.
+#[test]
+fn timed_warm_up() {
+    let mut coefficients = only_co();
+    coefficients[0].warm_up = [40_000, 50_000, 60_000];
+    coefficients[0].run = [100_000, 110_000, 120_000];
+    let rows = [
+        // warm: out 4.4, 32 and 104, in 4
+        (0, 1, 100, 10_080, 48_889),
+        (0, 70, 100, 43_200, 355_556),
+        (0, 250, 100, 129_600, 1_155_556),
+        // cold: out 6 × 20 + 4.4 by the table, 6 × 7 + 4.4 timed, in 4.4
+        (0, 0, -300, 154_560, 1_382_222),
+        (0, 70, -300, 60_960, 515_556),
+        // the heated stand's warm coefficients stay: out 10, then 32, in 4
+        (HEATED, 0, -300, 16_800, 111_111),
+        (HEATED, 70, -300, 43_200, 355_556),
+        // out 28 × 0.8 + 2 + 2 × 0.8, in 3.6
+        (CONTROLLED, 70, 100, 35_520, 288_889),
+    ];
+    for (flags, timed, temperature, annual, peak) in rows {
+        let source = Group {
+            flags,
+            timed,
+            ..CAR
+        };
+        let given = group(&source, &[temperature; 12], &coefficients).unwrap();
+        let row = format!("flags {flags}, timed {timed}, at {temperature}");
+        assert_eq!(figures(&given[0]), (annual, peak), "{row}");
+    }
+}
+
+/// 251 and more, also where the lowest byte or two alone are in range.
+#[test]
+fn timed_out_of_range() {
+    for timed in [251, 255, 256, 256 + 15, 65_536 + 15, u32::MAX] {
+        for flags in [0, HEATED] {
+            let source = Group {
+                flags,
+                timed,
+                ..CAR
+            };
+            let given = group(&source, &[100; 12], &only_co());
+            assert_eq!(given, Err(OUT_OF_RANGE), "{timed}");
+        }
+    }
+}
+
 /// Each coefficient is handed over in its own place.
 #[test]
 fn coefficients_in_their_places() {
@@ -241,6 +292,8 @@ fn nine_before_eleven() {
     soot[3].idle = 1;
     assert_eq!(group(&CAR, &[100; 12], &soot), Err(MUST_BE_ZERO));
     assert_eq!(group(&CAR, &[601; 12], &soot), Err(OUT_OF_RANGE));
+    let timed = Group { timed: 251, ..CAR };
+    assert_eq!(group(&timed, &[100; 12], &soot), Err(OUT_OF_RANGE));
     let diesel = Group { fuel: 2, ..CAR };
     assert_eq!(group(&diesel, &[100; 12], &soot).unwrap()[1].code, 2754);
     let mut lead = only_co();
