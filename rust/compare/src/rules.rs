@@ -160,6 +160,7 @@ fn plain_group(group: &tezhebul::Group) -> plain::Group {
         neutraliser: group.running.into(),
         warm_up_neutraliser: group.warming.into(),
         idle_time: group.idle,
+        timed: group.timed,
         distances: group.distances,
         days: group.days.map(u32::from),
     }

@@ -26,6 +26,8 @@ const FLAGS: Range = range(0, 3);
 const VEHICLES: Range = range(1, 10_000);
 const PERCENT: Range = range(0, 100);
 const IDLE: Range = range(0, 250);
+/// 0 says that the warm-up is not timed; 1 is the least that is.
+const TIMED: Range = banded(0, 250, &[1]);
 const DISTANCE: Range = range(0, 20_000);
 const MONTHS: [i64; 12] = [31, 29, 31, 30, 31, 30, 31, 31, 30, 31, 30, 31];
 const TEMPERATURE: Range = banded(-600, 600, &[-250, -200, -150, -100, -50, 50]);
@@ -90,8 +92,8 @@ pub struct Yard {
 }
 
 pub fn yard(random: &mut Random) -> Yard {
-    // the wrong value is among the first 37 as often as among all
-    let count = random.pick(&[37, 79]);
+    // the wrong value is among the first 38 as often as among all
+    let count = random.pick(&[38, 80]);
     let mut draw = Draw::new(random, count);
     let group = group(&mut draw);
     Yard {
@@ -113,6 +115,7 @@ fn group(draw: &mut Draw) -> Group {
         running: draw.u8(PERCENT),
         warming: draw.u8(PERCENT),
         idle: draw.u32(IDLE),
+        timed: draw.u32(TIMED),
         distances: std::array::from_fn(|_| draw.u32(DISTANCE)),
         days: std::array::from_fn(|month| draw.u8(range(0, MONTHS[month]))),
     }
@@ -204,6 +207,25 @@ fn total_1000(random: &mut Random, shares: [u16; 5]) -> [u16; 5] {
 #[cfg(test)]
 mod tests {
     use super::*;
+
+    #[test]
+    fn groups_untimed_and_timed() {
+        let mut random = Random::new(1, 1);
+        let (mut untimed, mut least, mut most, mut past) = (0, 0, 0, 0);
+        for _ in 0..4_000 {
+            match yard(&mut random).group.timed {
+                0 => untimed += 1,
+                1 => least += 1,
+                250 => most += 1,
+                251.. => past += 1,
+                _ => {}
+            }
+        }
+        assert!(
+            untimed > 1_000 && least > 400 && most > 400 && past > 50,
+            "{untimed} {least} {most} {past}"
+        );
+    }
 
     #[test]
     fn locomotives_of_every_sort() {

@@ -8,6 +8,8 @@ pub struct Tally {
     accepted: u64,
     /// Slots of accepted files by their kind, which is one of `KINDS`; slots 0 are not counted.
     kinds: [u64; 1 + KINDS.len()],
+    /// Groups of accepted files with a timed warm-up, which is at `TIMED`.
+    timed: u64,
     /// By number; 13 is that of listings of accepted files.
     pub refused: [u64; 15],
     pub twins: u64,
@@ -43,11 +45,15 @@ const KINDS: [&str; 6] = [
     "locomotives",
 ];
 
+const GROUP: u8 = 1;
+const TIMED: usize = 36;
+
 impl Tally {
     pub fn accept(&mut self, file: &[u8]) {
         self.accepted += 1;
         for slot in file.chunks_exact(64).skip(1) {
             self.kinds[usize::from(slot[2])] += 1;
+            self.timed += u64::from(slot[2] == GROUP && slot[TIMED] != 0);
         }
     }
 }
@@ -78,6 +84,7 @@ impl fmt::Display for Tally {
         for (kind, count) in KINDS.iter().zip(&self.kinds[1..]) {
             writeln!(f, "  {kind} {count}")?;
         }
+        writeln!(f, "  timed groups {}", self.timed)?;
         for number in (1..=12).chain([14]) {
             writeln!(f, "refused {number}: {}", self.refused[number])?;
         }
