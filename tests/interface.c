@@ -1,4 +1,4 @@
-/* Calls the library by its header, on 01's surveyed examples, a locomotive and slot files, as another tool would.
+/* Calls the library by its header, on 01's surveyed examples, timed warm-ups, a locomotive and slot files, as another tool would.
 
        interface FILE LISTING
 
@@ -42,8 +42,11 @@ static void stores(void)
     expect(!tezhebul_standing(2, 1, 1, 30, 5, 1, 2, 100, 0, out, TEZHEBUL_STORE_NUMBERS - 1) && out[0] == 9, "no room");
 }
 
-/* 01's examples B, C and D. */
-static void group(uint8_t flags, uint64_t annual, uint64_t peak, const char *what)
+/* 01's examples B, C and D, and the same with their warm-up timed. Out is 4 g a minute x minutes x control + 10 g/km x 0.2 km + 2 g a minute x 1 x control, in
+   the same without warm-up; 5 cars leave on 240 days, and 4 in the hour. B timed at 7.0 minutes: out 28 + 2 + 2 = 32, in 4, 36 x 1,200 = 43,200 g a year and
+   32 x 4 / 3,600 = 0.0355556 g/s, and D the same; at 25.0 minutes: out 104, 129,600 g and 0.1155556 g/s. C timed at 7.0: out 22.4 + 2 + 1.6 = 26, in 3.6,
+   35,520 g and 0.0288889 g/s. */
+static void group(uint8_t flags, uint32_t timed, uint64_t annual, uint64_t peak, const char *what)
 {
     uint32_t distances[TEZHEBUL_DISTANCES] = {100, 300, 100, 300};
     uint8_t days[TEZHEBUL_MONTHS];
@@ -54,12 +57,14 @@ static void group(uint8_t flags, uint64_t annual, uint64_t peak, const char *wha
         days[month] = 20;
         temperatures[month] = 100;
     }
-    expect(tezhebul_group(1, 1, flags, 10, 4, 50, 100, 100, 10, distances, TEZHEBUL_DISTANCES, days, TEZHEBUL_MONTHS, temperatures, TEZHEBUL_MONTHS,
+    expect(tezhebul_group(1, 1, flags, 10, 4, 50, 100, 100, 10, timed, distances, TEZHEBUL_DISTANCES, days, TEZHEBUL_MONTHS, temperatures, TEZHEBUL_MONTHS,
                           coefficients, TEZHEBUL_COEFFICIENTS, out, TEZHEBUL_GROUP_NUMBERS) && out[0] == 0, what);
     expect_emission(out + 2, 337, annual, peak, what);
     expect_emission(out + 2 + 5 * TEZHEBUL_EMISSION_NUMBERS, 184, 0, 0, what);
-    expect(!tezhebul_group(1, 1, flags, 10, 4, 50, 100, 100, 10, distances, TEZHEBUL_DISTANCES, days, TEZHEBUL_MONTHS - 1, temperatures, TEZHEBUL_MONTHS,
+    expect(!tezhebul_group(1, 1, flags, 10, 4, 50, 100, 100, 10, timed, distances, TEZHEBUL_DISTANCES, days, TEZHEBUL_MONTHS - 1, temperatures, TEZHEBUL_MONTHS,
                            coefficients, TEZHEBUL_COEFFICIENTS, out, TEZHEBUL_GROUP_NUMBERS), "eleven months");
+    expect(tezhebul_group(1, 1, flags, 10, 4, 50, 100, 100, 10, 251, distances, TEZHEBUL_DISTANCES, days, TEZHEBUL_MONTHS, temperatures, TEZHEBUL_MONTHS,
+                          coefficients, TEZHEBUL_COEFFICIENTS, out, TEZHEBUL_GROUP_NUMBERS) && out[0] == 9 && out[1] == 0 && out[2] == 0, "timed at 25.1");
 }
 
 /* TGM6 with the shares of 000's Table 22, 1,000 hours, not old, in zone 2: 0.94743, 6.13464 and 0.04921 kg/h, at full power 4.13, 15.21 and 0.38. */
@@ -126,9 +131,13 @@ int main(int count, char **words)
 {
     expect(count == 3, "interface FILE LISTING");
     stores();
-    group(0, 24000, 177778, "B");
-    group(TEZHEBUL_CONTROLLED, 20160, 146667, "C");
-    group(TEZHEBUL_HEATED, 16800, 111111, "D");
+    group(0, 0, 24000, 177778, "B");
+    group(TEZHEBUL_CONTROLLED, 0, 20160, 146667, "C");
+    group(TEZHEBUL_HEATED, 0, 16800, 111111, "D");
+    group(0, 70, 43200, 355556, "B timed");
+    group(0, 250, 129600, 1155556, "B timed at most");
+    group(TEZHEBUL_CONTROLLED, 70, 35520, 288889, "C timed");
+    group(TEZHEBUL_HEATED, 70, 43200, 355556, "D timed");
     locomotive();
     locomotive_file();
     file(words[1], words[2]);
