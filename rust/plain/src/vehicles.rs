@@ -177,8 +177,8 @@ impl Group {
     }
 
     /// Period and warm-up time, in tenths of a minute, of a month. "A heated stand has 1.5 minutes
-    /// and warm-period coefficients all year (003)." "A timed value replaces the table and the heated
-    /// stand's 1.5 minutes; the heated stand's warm coefficients stay."
+    /// and warm-period coefficients all year (003)." "A timed value replaces the table and the
+    /// heated stand's 1.5 minutes; the heated stand's warm coefficients stay."
     fn warm_up(&self, temperature: i32) -> (usize, u64) {
         let (period, untimed) = if self.heated() {
             (0, 15)

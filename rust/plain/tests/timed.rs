@@ -111,8 +111,8 @@ fn the_same_minutes_at_every_temperature() {
     assert_given(&timed(0, 70), &year, 49_120, 464);
 }
 
-/// The stand's warm-period coefficients stay, whatever the cold: out 32 and in 4 at 7.0 minutes, out
-/// 10 and in 4 at 1.5.
+/// The stand's warm-period coefficients stay, whatever the cold: out 32 and in 4 at 7.0 minutes,
+/// out 10 and in 4 at 1.5.
 #[test]
 fn heated_and_timed() {
     for cold in [[-51; 12], [-300; 12], [-600; 12]] {
@@ -123,8 +123,8 @@ fn heated_and_timed() {
     }
 }
 
-/// The control factor of petrol CO is 0.8: out 28 × 0.8 + 2 + 2 × 0.8 = 26, in 3.6; cold out 42 × 0.8
-/// + 2.4 + 1.6 = 37.6, in 4.
+/// The control factor of petrol CO is 0.8: out 28 × 0.8 + 2 + 2 × 0.8 = 26, in 3.6; cold out
+/// 42 × 0.8 + 2.4 + 1.6 = 37.6, in 4.
 #[test]
 fn controlled_and_timed() {
     assert_given(&timed(CONTROLLED, 70), &[100; 12], 35_520, 260);

@@ -87,8 +87,9 @@ pub struct Group {
     pub warming: u8,
     /// Idle time, tenths of a minute, 0 to 250.
     pub idle: u32,
-    /// The warm-up as the drivers timed it, tenths of a minute, 1 to 250, at every temperature; 0 where
-    /// it was not timed, and it lasts the minutes of the papers' table, or the 1.5 of a heated stand.
+    /// The warm-up as the drivers timed it, tenths of a minute, 1 to 250, at every temperature; 0
+    /// where it was not timed, and it lasts the minutes of the papers' table, or the 1.5 of a
+    /// heated stand.
     pub timed: u32,
     /// Metres, 0 to 20,000: out from the nearest place, out from the farthest, in to the nearest,
     /// in to the farthest.

@@ -220,8 +220,9 @@ fn car_with_control_and_heated() {
     }
 }
 
-/// Row B with warm-up 4, 5, 6 g a minute and run 10, 11, 12 g a kilometre by period. Out is warm-up ×
-/// minutes + run × 0.2 + 2, in the same without warm-up; 5 cars on 240 days, 4 leave in the hour.
+/// Row B with warm-up 4, 5, 6 g a minute and run 10, 11, 12 g a kilometre by period. Out is
+/// warm-up × minutes + run × 0.2 + 2, in the same without warm-up; 5 cars on 240 days, 4 leave in
+/// the hour.
 #[test]
 fn timed_warm_up() {
     let mut coefficients = only_co();
