@@ -1,5 +1,5 @@
 """Files at the edges of 01: its examples, each range, each byte and link, and each question. Those
-of the locomotives are in file_locomotives.py."""
+of the locomotives are in file_locomotives.py, and those of timed warm-ups in file_timed.py."""
 import struct
 from dataclasses import dataclass, replace
 
@@ -110,7 +110,7 @@ def source_edges():
 # Bytes that have no name, and flags
 
 UNNAMED = {
-    GROUP: (*range(36, 64),),
+    GROUP: (*range(37, 64),),
     COEFFICIENTS: (*range(32, 64),),
     HANDLING: (7, 16, 17, 18, 19, *range(24, 64)),
     STANDING: (7, 15, 18, 19, *range(24, 64)),
@@ -129,13 +129,14 @@ def unnamed_in_slot(dice, label, f, slot, expected, positions):
 
 def unnamed_bytes():
     """Bytes 32..33 of slot 0 are a link by 02, U1: with any other value than 0 it leads beyond these
-    files."""
+    files. Byte 36 of a group is a field by 02, U2, and what is thrown for it is in its range."""
     dice = Dice(4)
     found = unnamed_in_slot(dice, "slot 0", build(), 0, (6, 0), (32, 33))
     found += unnamed_in_slot(dice, "slot 0", build(), 0, (4, 0), range(34, 64))
     found += unnamed_in_slot(dice, "slot 0 of stores", BULK, 0, (6, 0), (32,))
     found += unnamed_in_slot(dice, "slot 0 of stores", BULK, 0, (4, 0), range(35, 64, 3))
     slot = YARD.groups[0]
+    found += unnamed_in_slot(dice, "group", YARD, slot, ACCEPTED, (36,))
     found += unnamed_in_slot(dice, "group", YARD, slot, (9, slot), UNNAMED[GROUP])
     for kind, slot in zip((HANDLING, STANDING, ASPIRATION), BULK.stores):
         found += unnamed_in_slot(dice, f"kind {kind}", BULK, slot, (9, slot), UNNAMED[kind])

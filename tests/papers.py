@@ -1,11 +1,11 @@
 """The source rules and the figures, worked out in exact fractions.
 
 This is the separate calculation that the library is held to. It is written from the papers alone:
-01, the scope paper of this project, with the changes of 02 (U1, locomotives), and 000, SO
-153-34.02.317-2003, whose tables and formulas they take over. Each function names the sentence or
-the table that it renders. Fields have the names and the units of 01, "The slot file", and of 02;
-nothing here is taken from the code, its definitions or its proofs. Where the papers leave a name
-open (a refusal's substance code) this says so.
+01, the scope paper of this project, with the changes of 02 (U1, locomotives, and U2, timed
+warm-ups), and 000, SO 153-34.02.317-2003, whose tables and formulas they take over. Each function
+names the sentence or the table that it renders. Fields have the names and the units of 01, "The
+slot file", and of 02; nothing here is taken from the code, its definitions or its proofs. Where the
+papers leave a name open (a refusal's substance code) this says so.
 """
 from dataclasses import dataclass
 from fractions import Fraction
@@ -303,6 +303,7 @@ class Group:
     neutraliser: int  # percent, run and idle
     warm_up_neutraliser: int  # percent, warm-up
     idle: int  # tenths of a minute
+    timed: int  # 02: the warm-up, tenths of a minute; 0 for untimed
     out_nearest: int  # metres, and the three below
     out_farthest: int
     in_nearest: int
@@ -344,14 +345,19 @@ def table_9_column(t):
 
 
 def warm_up_minutes(group, t):
-    """"A heated stand has 1.5 minutes ... all year"; else by 000 table 9."""
+    """02, U2: "A timed value replaces the table and the heated stand's 1.5 minutes"; 003, note 2 of
+    table 2.2, "может приниматься по фактическим замерам". Untimed: "A heated stand has 1.5 minutes
+    ... all year"; else by 000 table 9."""
+    if group.timed != 0:
+        return Fraction(group.timed, 10)
     if group.heated:
         return Fraction("1.5")
     return Fraction(MINUTES[group.category][table_9_column(t)])
 
 
 def coefficient_period(group, t):
-    """"A heated stand has ... warm-period coefficients all year"."""
+    """"A heated stand has ... warm-period coefficients all year"; 02, U2: where it is timed, "the
+    heated stand's warm coefficients stay"."""
     return WARM if group.heated else period(t)
 
 
@@ -383,6 +389,11 @@ def code(group, pollutant):
 # Vehicle rules: the ranges of 01, "The slot file", "Slot 0", "Group" and "Coefficients".
 
 
+def timing_in_range(timed):
+    """02, U2: "tenths of a minute, 1 to 250, or 0 for untimed"."""
+    return timed == 0 or 1 <= timed <= 250
+
+
 def group_in_range(g):
     percents = (g.share, g.neutraliser, g.warm_up_neutraliser)
     distances = (g.out_nearest, g.out_farthest, g.in_nearest, g.in_farthest)
@@ -393,6 +404,7 @@ def group_in_range(g):
         and 0 <= g.leaving <= g.vehicles
         and all(0 <= p <= 100 for p in percents)
         and 0 <= g.idle <= 250
+        and timing_in_range(g.timed)
         and all(0 <= d <= 20_000 for d in distances)
         and all(0 <= d <= length for d, length in zip(g.days, MONTH_LENGTHS))
         and all(-600 <= t <= 600 for t in g.temperatures)

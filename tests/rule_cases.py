@@ -16,8 +16,8 @@ A case is a record of 320 bytes, numbers little-endian, other bytes zero:
     3:      40 dust, 42..43 store, 44..47 concentration, 48..51 flow, 52..53 capture, 54..55 hours
     4:      40 category, 41 fuel, 42 control, 43 heated, 44..45 N, 46..47 N', 48 share,
             49 neutraliser for run and idle, 50 for warm-up, 52..55 idle time,
-            56..71 four distances, 72..83 days, 84..107 temperatures (signed),
-            108..275 six pollutants of seven coefficients
+            56..59 timed warm-up, 60..75 four distances, 76..87 days, 88..111 temperatures
+            (signed), 112..279 six pollutants of seven coefficients
     5:      40..55 exact units of a sum and 56..71 of another, 72..75 factor
     6:      40 model, 41 old, 42 zone, 44..53 five shares, 54..55 hours
 
@@ -77,10 +77,12 @@ def group_fields(g):
     flags = struct.pack("<BBBB", g.category, g.fuel, g.controlled, g.heated)
     vehicles = struct.pack("<HH", g.vehicles, g.leaving)
     percents = struct.pack("<BBBx", g.share, g.neutraliser, g.warm_up_neutraliser)
-    ways = struct.pack("<IIIII", g.idle, g.out_nearest, g.out_farthest, g.in_nearest, g.in_farthest)
+    times = struct.pack("<II", g.idle, g.timed)
+    ways = struct.pack("<IIII", g.out_nearest, g.out_farthest, g.in_nearest, g.in_farthest)
     months = struct.pack("<12B12h", *g.days, *g.temperatures)
     coefficients = [k for c in g.coefficients for k in c.all_seven()]
-    return flags + vehicles + percents + ways + months + struct.pack("<42I", *coefficients)
+    numbers = flags + vehicles + percents + times + ways + months
+    return numbers + struct.pack("<42I", *coefficients)
 
 
 def sums_fields(s):

@@ -2,8 +2,8 @@
 
 This is the part of the separate calculation that reads files. It is written from 01, the scope
 paper, alone: "The slot file", "Questions in order" and "Figures", with the changes of 02 (U1,
-locomotives). Each function names the sentence that it renders. What a source gives is worked out
-by papers.py, in exact fractions.
+locomotives, and U2, timed warm-ups). Each function names the sentence that it renders. What a
+source gives is worked out by papers.py, in exact fractions.
 """
 import struct
 from dataclasses import dataclass
@@ -109,8 +109,9 @@ def first_coefficients(slot):
 
 @lru_cache(maxsize=None)
 def read_group(slot, months, rows):
-    """"Group (byte 2 = 1): 3 category ... 22..33 days worked per month". The temperatures are slot
-    0's, and the coefficients are those of the group's six coefficient slots."""
+    """"Group (byte 2 = 1): 3 category ... 22..33 days worked per month"; 02, "Group byte 36 holds
+    tenths of a minute". The temperatures are slot 0's, and the coefficients are those of the
+    group's six coefficient slots."""
     return Group(
         category=slot[3],
         fuel=slot[4],
@@ -122,6 +123,7 @@ def read_group(slot, months, rows):
         neutraliser=slot[11],
         warm_up_neutraliser=slot[12],
         idle=slot[13],
+        timed=slot[36],
         out_nearest=two(slot, 14),
         out_farthest=two(slot, 16),
         in_nearest=two(slot, 18),
@@ -233,7 +235,7 @@ def named(*spans):
 
 
 NAMED = {
-    GROUP: named((0, 35)),
+    GROUP: named((0, 36)),
     COEFFICIENTS: named((0, 31)),
     HANDLING: named((0, 6), (8, 15), (20, 23)),
     STANDING: named((0, 6), (8, 14), (16, 17), (20, 23)),
@@ -258,7 +260,8 @@ def unnamed_bytes_are_zero(slot):
 
 @lru_cache(maxsize=None)
 def fields_are_in_order(slot):
-    """Question 9: "Is each field in range and every unnamed byte zero?"."""
+    """Question 9: "Is each field in range and every unnamed byte zero?" 02, U2: "Question 9 covers
+    the byte" of a timed warm-up."""
     return IN_RANGE[slot[2]](slot) and unnamed_bytes_are_zero(slot)
 
 
@@ -486,12 +489,12 @@ def header(count, group, store, months, locomotive=0):
 def group_slot(g, after, coefficients):
     flags = g.controlled + 2 * g.heated
     return pack(
-        "H4BHH4B4H12BH",
+        "H4BHH4B4H12BHB",
         *(after, GROUP, g.category, g.fuel, flags, g.vehicles, g.leaving),
         *(g.share, g.neutraliser, g.warm_up_neutraliser, g.idle),
         *(g.out_nearest, g.out_farthest, g.in_nearest, g.in_farthest),
         *g.days,
-        coefficients,
+        *(coefficients, g.timed),
     )
 
 

@@ -111,6 +111,7 @@ PARK = Group(
     neutraliser=100,  # none is spoken of
     warm_up_neutraliser=100,
     idle=10,  # "t_хх1 = t_хх2 = 1 мин", after formula (2.6)
+    timed=0,  # "По табл. 2.2 определяется значение t_пр", for each month
     days=DAYS,
     temperatures=tuple(whole(t, 10) for t in TEMPERATURES),
     coefficients=tuple(coefficients(p) for p in papers.POLLUTANTS),
