@@ -3,8 +3,8 @@
     python3 tests/rule_cases.py stdin  > crates/rule_cases/stdin
     python3 tests/rule_cases.py stdout > crates/rule_cases/stdout
 
-The cases are those of cases.py and locomotives.py, and what must be printed is worked out by
-papers.py.
+The cases are those of cases.py, locomotives.py and timed.py, and what must be printed is worked out
+by papers.py.
 
 A case is a record of 320 bytes, numbers little-endian, other bytes zero:
 
@@ -41,6 +41,7 @@ from math import floor
 import cases
 import locomotives
 import papers
+import timed
 
 # Every exact unit has one denominator (01, "Figures"): parts in a printed unit
 ANNUAL_PARTS = 20_000_000_000_000
@@ -185,11 +186,11 @@ def all_printed(every):
     return b"".join(text)
 
 
-# What 01 prints of its surveyed examples
+# What 01 prints of its surveyed examples, and what was worked out by hand of timed ones
 
 
 def assert_surveyed():
-    for case, tonnes, rate in cases.SURVEYED:
+    for case, tonnes, rate in cases.SURVEYED + timed.BY_HAND:
         first = RULES[type(case.source)](case.source).emissions[0]
         annual = papers.annual_figure(case.repeat * first.tonnes)
         peak = papers.peak_figure(case.repeat * first.rate)
@@ -213,7 +214,9 @@ def assert_by_hand():
 def main():
     assert_surveyed()
     assert_by_hand()
-    every = cases.all_cases(DENOMINATORS) + locomotives.all_cases()
+    timed.assert_minutes()
+    timed.assert_as_in_table()
+    every = cases.all_cases(DENOMINATORS) + locomotives.all_cases() + timed.all_cases()
     labels = [case.label for case in every]
     assert len(set(labels)) == len(labels), [x for x in labels if labels.count(x) > 1]
     cases.write_side("rule_cases.py", lambda: all_records(every), lambda: all_printed(every))
