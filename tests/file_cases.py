@@ -3,8 +3,8 @@
     python3 tests/file_cases.py stdin
     python3 tests/file_cases.py stdout
 
-The files are those of file_edges.py, file_locomotives.py, file_faults.py and file_mixes.py, and
-what must be printed is worked out by slot_file.py.
+The files are those of file_edges.py, file_locomotives.py, file_timed.py, file_faults.py and
+file_mixes.py, and what must be printed is worked out by slot_file.py.
 
 The input is one record after another: 4 bytes, the length n of the file; 2 bytes, a number b; the n
 bytes of the file. Numbers are little-endian. Where b is 65,535 the program prints what the program
@@ -27,11 +27,13 @@ import file_edges
 import file_faults
 import file_locomotives
 import file_mixes
+import file_timed
 import files
 import inventory
 import papers
 import slot_file
 import tikhvin
+import timed
 from cases import Dice
 from files import ACCEPTED, FileCase
 
@@ -65,7 +67,7 @@ def lent():
         found.append(replace(case, lent=size))
     for size in (0, 1, 266, 267, 268, 269, 270, 271, MOST_LENT):
         found.append(FileCase("no sources", files.build().data, ACCEPTED, size))
-    return found + lent_with_locomotives()
+    return found + lent_with_locomotives() + lent_with_timings()
 
 
 def lent_with_locomotives():
@@ -78,14 +80,25 @@ def lent_with_locomotives():
     return found
 
 
+def lent_with_timings():
+    dice = Dice(15)
+    found = []
+    for case in file_timed.by_hand()[1::4] + file_mixes.valid_timed()[:3]:
+        found += lent_to(dice, case)
+    for case in file_timed.values()[8:13]:
+        found.append(replace(case, lent=dice.pick((0, dice.below(300), MOST_LENT))))
+    return found
+
+
 def textbook():
     """The worked example of document 003 (tikhvin.py)."""
     return [FileCase("car park in Tikhvin", tikhvin.inventory(tikhvin.PARK, tikhvin.ROAD), ACCEPTED)]
 
 
 def all_files():
-    edges = file_edges.edge_files() + file_locomotives.edge_files() + file_faults.faulty_pairs()
-    full = file_mixes.full() + file_mixes.full_of_locomotives()
+    edges = file_edges.edge_files() + file_locomotives.edge_files() + file_timed.edge_files()
+    edges += file_faults.faulty_pairs()
+    full = file_mixes.full() + file_mixes.full_of_locomotives() + file_mixes.full_of_timed_groups()
     return edges + textbook() + file_mixes.mixed_files() + lent() + full
 
 
@@ -158,6 +171,8 @@ sources 0 0 1
 
 def assert_by_hand():
     assert output(file_locomotives.by_hand()[0]) == BY_HAND
+    for case, (source, tonnes, rate) in zip(file_timed.by_hand(), timed.BY_HAND):
+        assert output(case) == expected_listing(source.source, tonnes, rate, 1), case.label
 
 
 def assert_minutes():
@@ -242,7 +257,7 @@ def list_numbers(every):
 
 
 def assert_reached(every):
-    assert 3_000 <= len(every) <= 7_000, len(every)
+    assert 3_000 <= len(every) <= 7_500, len(every)
     slots = print_refusals(every)
     for number in REFUSALS:
         assert len(slots[number]) >= 20, number
@@ -258,6 +273,7 @@ def main():
     assert_surveyed()
     assert_by_hand()
     assert_minutes()
+    file_timed.assert_as_in_table()
     assert_halves()
     assert_buffers()
     every = all_files()

@@ -5,6 +5,7 @@ import cases
 import locomotives
 import papers
 import slot_file
+import timed
 from cases import COAL_HANDLED, SLAG_STANDING, THIN_AIR
 from cases import DIESEL_FLEET, FLEET, YEAR, Dice
 from files import ACCEPTED, FileCase, always, build, byte, changed, never, shuffled, word
@@ -31,11 +32,11 @@ def with_rows_of(dice, g, other):
     return cases.with_coefficients(replace(g, fuel=other.fuel), held, cases.NO_COEFFICIENTS)
 
 
-def any_groups(dice, most):
+def any_groups(dice, most, any_group=cases.any_group):
     """Some with rows of another, so that these can be shared."""
     groups = []
     for _ in range(dice.below(most + 1)):
-        g = cases.any_group(dice)
+        g = any_group(dice)
         if groups and dice.below(2) == 0:
             g = with_rows_of(dice, g, dice.pick(groups))
         groups.append(g)
@@ -58,8 +59,8 @@ def any_locomotives(dice, most):
     return [locomotives.any_locomotive(dice) for _ in range(number)]
 
 
-def any_file(dice, most_groups=3, most_stores=5, most_locomotives=0):
-    groups, stores = any_groups(dice, most_groups), any_stores(dice, most_stores)
+def any_file(dice, most_groups=3, most_stores=5, most_locomotives=0, any_group=cases.any_group):
+    groups, stores = any_groups(dice, most_groups, any_group), any_stores(dice, most_stores)
     engines = any_locomotives(dice, most_locomotives)
     months, may_share = any_months(dice), dice.pick((never, always, coin(dice)))
     return build(groups, stores, months, dice, may_share, engines)
@@ -74,6 +75,17 @@ def valid_with_locomotives():
     dice = Dice(101)
     files = [any_file(dice, i % 3, 3, 5) for i in range(60)]
     return [FileCase(f"valid, three chains {i}", f.data, ACCEPTED) for i, f in enumerate(files)]
+
+
+def any_timed_file(dice, most_groups=3):
+    """Half of the groups are timed; some files have a locomotive too."""
+    return any_file(dice, most_groups, 2, dice.below(2), timed.any_group)
+
+
+def valid_timed():
+    dice = Dice(102)
+    files = [any_timed_file(dice) for _ in range(45)]
+    return [FileCase(f"valid, timed {i}", f.data, ACCEPTED) for i, f in enumerate(files)]
 
 
 NEITHER = cases.with_coefficients(FLEET, papers.LEAD, cases.NO_COEFFICIENTS)
@@ -103,9 +115,9 @@ def repeated(dice, sources):
     return [source for source in sources for _ in range(dice.pick((1, 1, 1, 2, 3)))]
 
 
-def alike_files(dice, most_locomotives):
+def alike_files(dice, most_locomotives, any_group):
     """Files alike in their temperatures, groups, store records and locomotives."""
-    groups = repeated(dice, any_groups(dice, 2))
+    groups = repeated(dice, any_groups(dice, 2, any_group))
     stores = repeated(dice, any_stores(dice, 4))
     engines = repeated(dice, any_locomotives(dice, most_locomotives))
     months = any_months(dice)
@@ -116,11 +128,11 @@ def alike_files(dice, most_locomotives):
     return [f.data for f in files]
 
 
-def families(dice, number, most_locomotives):
+def families(dice, number, most_locomotives, any_group=cases.any_group):
     """Demand 3: alike files get the same answers."""
     found = []
     for family in range(number):
-        files = alike_files(dice, most_locomotives)
+        files = alike_files(dice, most_locomotives, any_group)
         answers = {slot_file.answer(data) for data in files}
         assert len(answers) == 1, family
         found += [FileCase(f"alike {family}", data, ACCEPTED) for data in files]
@@ -128,7 +140,8 @@ def families(dice, number, most_locomotives):
 
 
 def alike():
-    return families(Dice(3), 60, 0) + families(Dice(303), 12, 4)
+    untimed = families(Dice(3), 60, 0) + families(Dice(303), 12, 4)
+    return untimed + families(Dice(333), 8, 1, timed.any_group)
 
 
 def half_air(capture):
@@ -284,6 +297,15 @@ def full_of_locomotives():
     ]
 
 
+def full_of_timed_groups():
+    """The largest, each timed: 250, 249, down to 1, and again."""
+    most = LARGEST["largest diesel group"]
+    groups = [replace(most, timed=250 - i % 250) for i in range(1_017)]
+    f = build(groups, (), FREEZING, Dice(1_022), always)
+    assert f.count() == 1_024
+    return [FileCase("full, timed", f.data, ACCEPTED)]
+
+
 # Files with faults that nobody chose
 
 
@@ -398,6 +420,14 @@ def damaged_share(dice, data):
     return changed(data, changes[0]) if changes else data
 
 
+def damaged_timing(dice, data):
+    """Byte 36 of a slot of any kind, mostly of a group."""
+    slots = range(len(data) // SLOT)
+    groups = [slot for slot in slots[1:] if data[slot * SLOT + 2] == GROUP]
+    slot = dice.pick(groups) if groups and dice.below(5) != 0 else dice.pick(slots)
+    return changed(data, byte(slot, 36, dice.pick((0, 1, 250, 251, 255, dice.below(256)))))
+
+
 def damaged_kind(dice, data):
     return changed(data, byte(dice.below(len(data) // SLOT), 2, dice.below(7)))
 
@@ -458,6 +488,18 @@ DAMAGES = (
 ENGINE_DAMAGES = (damaged_engine_link, damaged_engine_link, damaged_share, damaged_share) + DAMAGES
 
 
+def damaged_timed():
+    """One file in three is damaged besides."""
+    dice = Dice(88)
+    found = []
+    for i in range(40):
+        data = damaged_timing(dice, any_timed_file(dice, 1 + i % 2).data)
+        if dice.below(3) == 0:
+            data = dice.pick(DAMAGES)(dice, data)
+        found.append(FileCase(f"damaged, timed {i}", data))
+    return found
+
+
 def damaged():
     dice = Dice(8)
     found = []
@@ -498,10 +540,12 @@ def mixed_files():
         shared_rows()
         + valid()
         + valid_with_locomotives()
+        + valid_timed()
         + alike()
         + halves()
         + half_locomotives()
         + tangled()
         + damaged()
+        + damaged_timed()
         + any_bytes()
     )

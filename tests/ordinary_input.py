@@ -20,6 +20,7 @@ from cases import Dice
 from file_cases import PRINTED
 from hard_input import SECONDS, assert_printed, ended
 from inventory import LISTING, example
+from slot_file import GROUP, SLOT
 
 STORED = os.path.join(os.path.dirname(os.path.abspath(__file__)), "../crates/file_cases/stdin")
 FILES = 180
@@ -46,13 +47,21 @@ def spread():
     return [every[place * len(every) // FILES] for place in range(FILES)]
 
 
+def has_timed_group(data):
+    slots = [data[at : at + SLOT] for at in range(SLOT, len(data) - SLOT + 1, SLOT)]
+    return any(slot[2] == GROUP and slot[36] != 0 for slot in slots)
+
+
 def assert_spread(files):
-    """Sound ones, some with locomotives, and refused ones, by nearly all of the numbers."""
+    """Sound ones, some with locomotives or timed groups, and refused ones, by nearly all of the
+    numbers."""
     answers = [slot_file.answer(data) for data in files]
     numbers = Counter(a.number for a in answers)
     assert numbers[0] >= 40 and sum(numbers.values()) - numbers[0] >= 40, numbers
     assert len(numbers) >= 12 and numbers[14] >= 1, numbers
     assert sum(a.locomotives > 0 for a in answers) >= 5
+    timed = [a for a, data in zip(answers, files) if has_timed_group(data)]
+    assert len(timed) >= 5 and sum(a.number == 0 for a in timed) >= 2, len(timed)
 
 
 def in_pieces(program, dice, data):

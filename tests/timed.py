@@ -24,18 +24,19 @@ TIMED = replace(FLEET, timed=TENTHS, temperatures=SEVERE)
 TIMED_DIESEL = replace(DIESEL_FLEET, timed=TENTHS, temperatures=SEVERE)
 
 
-# Worked by hand: 01's example B with other minutes, 200 m of 10 g/km and 1 min of 2 g each way, 1,200
-# ways out in a year, 4 in the hour.
+# Worked by hand: 01's example B with other minutes, 200 m of 10 g/km and 1 min of 2 g each way,
+# 1,200 ways out in a year, 4 in the hour.
 #
 # 0.1 min: out 4 × 0.1 + 2 + 2 = 4.4, in 4, together 8.4 × 1,200 = 10,080 g; 4.4 × 4 / 3600 g/s.
-# 2.5 min: out 4 × 2.5 + 2 + 2 = 14, in 4, together 18 × 1,200 = 21,600 g; 14 × 4 / 3600 g/s, and the
+# 2.5 min: out 4 × 2.5 + 2 + 2 = 14, in 4, together 18 × 1,200 = 21,600 g; 14 × 4 / 3600 g/s. The
 # same on a heated stand, since B's coefficients are those of each period.
-# 2.5 min with control: out 10 × 0.8 + 2 + 2 × 0.8 = 11.6, in 3.6, together 15.2 × 1,200 = 18,240 g.
+# 2.5 min with control: out 10 × 0.8 + 2 + 2 × 0.8 = 11.6, in 3.6, together 15.2 × 1,200 = 18,240 g;
+# 11.6 × 4 / 3600 g/s.
 # 25 min: out 4 × 25 + 2 + 2 = 104, in 4, together 108 × 1,200 = 129,600 g; 104 × 4 / 3600 g/s.
 #
 # At -20.0 with 1, 2 and 3 g a minute of warm-up, 10, 20 and 30 g/km and 1 g a minute idle, 4 min:
-# out 3 × 4 + 30 × 0.2 + 1 = 19, in 7, together 26 × 1,200 = 31,200 g; 19 × 4 / 3600 g/s. Heated: out
-# 1 × 4 + 10 × 0.2 + 1 = 7, in 3, together 10 × 1,200 = 12,000 g; 7 × 4 / 3600 g/s.
+# out 3 × 4 + 30 × 0.2 + 1 = 19, in 7, together 26 × 1,200 = 31,200 g; 19 × 4 / 3600 g/s. Heated:
+# out 1 × 4 + 10 × 0.2 + 1 = 7, in 3, together 10 × 1,200 = 12,000 g; 7 × 4 / 3600 g/s.
 
 
 def surveyed(timed, **flags):
@@ -241,8 +242,8 @@ def assert_minutes():
 
 
 def assert_as_in_table():
-    """Timed at the table's minutes, or a heated stand at 1.5, it gives what it gives untimed; a tenth
-    more or less, it does not."""
+    """Timed at the table's minutes, or a heated stand at 1.5, a group gives what it gives untimed;
+    a tenth more or less, it does not."""
     for label, g in as_in_table():
         untimed = papers.group(replace(g, timed=0))
         assert papers.group(g) == untimed, label
