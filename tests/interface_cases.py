@@ -42,8 +42,9 @@ import inventory
 import locomotives
 import papers
 import slot_file
+import timed
 from cases import DIESEL_FLEET, FLEET, Dice, edges, out_of_range
-from files import build
+from files import build, byte, changed
 from papers import Aspiration, Group, Handling, Locomotive, Standing
 
 FUNCTIONS = ("check", "answer", "list", "handling", "standing", "aspiration", "group", "locomotive")
@@ -495,6 +496,36 @@ def group_calls():
     return calls + flag_calls() + length_calls()
 
 
+# Cases of timed groups: all numbers of a diesel one still differ
+
+PETROL_TIMED = replace(PETROL_GROUP, timed=timed.TENTHS, temperatures=timed.SEVERE)
+DIESEL_TIMED = replace(DIESEL_GROUP, timed=timed.TENTHS, temperatures=timed.SEVERE)
+
+
+def timed_sources():
+    return (
+        [("timed petrol", PETROL_TIMED), ("timed diesel", DIESEL_TIMED)]
+        + [("heated, timed petrol", replace(PETROL_TIMED, heated=True))]
+        + [("heated, timed diesel", replace(DIESEL_TIMED, heated=True, controlled=False))]
+        + [(f"timed {tenths}", replace(PETROL_TIMED, timed=tenths)) for tenths in (1, 250)]
+        + refused("group", PETROL_TIMED, dict(timed=(251, 257, 65_536 + 15, 2**32 - 1)))
+        + [
+            ("timed 250, idle 251", replace(PETROL_TIMED, timed=250, idle=251)),
+            ("timed petrol with soot", with_soot(PETROL_TIMED)),
+            ("timed 251, petrol with soot", replace(with_soot(PETROL_TIMED), timed=251)),
+        ]
+    )
+
+
+def timed_calls():
+    size, sources = NUMBERS["GROUP_NUMBERS"], timed_sources()
+    calls = [Call(label, "group", g, size + at % 4) for at, (label, g) in enumerate(sources)]
+    calls.append(Call("timed petrol, 31 lent", "group", PETROL_TIMED, size - 1))
+    short, far = (("days", 11),), replace(PETROL_TIMED, timed=251)
+    calls.append(Call("timed petrol, 11 days", "group", PETROL_TIMED, size, lengths=short))
+    return calls + [Call("timed 251, 11 days", "group", far, size, lengths=short)]
+
+
 # Cases of the files
 
 STORES = [replace(HANDLED, dust=2), replace(STOOD, dust=3), replace(AIR, dust=1)]
@@ -529,9 +560,17 @@ def files_with_locomotives():
     return [("three chains", PLANT)] + [(f"three chains {i}", data) for i, data in enumerate(valid)]
 
 
+def timed_files():
+    """Two timed groups before an untimed one; and that one above the range."""
+    groups = [PETROL_TIMED, replace(DIESEL_TIMED, heated=True), DIESEL_GROUP]
+    f = build(groups, STORES[:1], timed.SEVERE, Dice(7))
+    above = changed(f.data, byte(f.groups[-1], 36, 251))
+    return [("timed", f.data), ("timed 251", above)]
+
+
 def file_calls():
     size, calls = NUMBERS["NUMBERS"], []
-    every = accepted_files() + refused_files() + files_with_locomotives()
+    every = accepted_files() + refused_files() + files_with_locomotives() + timed_files()
     for at, (label, data) in enumerate(every):
         calls.append(Call(f"{label}, check", "check", data, at % 3))
         calls.append(Call(f"{label}, answer", "answer", data, size + at % 4))
@@ -553,7 +592,8 @@ def lent_calls():
 
 
 def all_calls():
-    return store_calls() + group_calls() + file_calls() + lent_calls() + locomotive_calls()
+    rules = store_calls() + group_calls()
+    return rules + file_calls() + lent_calls() + locomotive_calls() + timed_calls()
 
 
 # What the cases must reach
@@ -631,7 +671,7 @@ def assert_slices():
 def assert_reached(every):
     counts = Counter(call.function for call in every)
     assert all(counts[function] >= 15 for function in FUNCTIONS), counts
-    assert 150 <= len(every) <= 300, len(every)
+    assert 150 <= len(every) <= 330, len(every)
     labels = Counter(call.label for call in every)
     assert max(labels.values()) == 1, labels.most_common(3)
     lists = Counter(given(call)[1][0] for call in every if call.function == "list")
