@@ -158,8 +158,8 @@ def untimed():
 
 
 def base(dice):
-    untimed = replace(TIMED_DIESEL, timed=0)
-    return build([TIMED, untimed], [COAL_HANDLED], SEVERE, dice, always)
+    groups = [TIMED, replace(TIMED_DIESEL, timed=0)]
+    return build(groups, [COAL_HANDLED], SEVERE, dice)
 
 
 def timings(name, slot):
@@ -244,7 +244,7 @@ def is_timing(fault):
     return "timed" in fault.label
 
 
-# What is asked just before and just after a group's 9, at its slot, in its rows and at other slots
+# What is asked before a group's 9 and after it, at its own slot and at others
 BEFORE, AFTER = (5, 6, 8, 10, 11), (6, 7, 8, 10, 11, 12)
 
 

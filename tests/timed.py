@@ -10,7 +10,7 @@ import cases
 import papers
 from cases import BARRED, BAND_EDGES, DIESEL_FLEET, FLEET, MOST_GROUPS, OK, OUT, WORKED
 from cases import Case, Dice, accepted, all_year, degrees, edges, out_of_range
-from papers import BUS, CAR, CO, DIESEL, PETROL, SOOT, TRUCK, Coefficients
+from papers import BUS, CAR, CO, PETROL, SOOT, TRUCK, Coefficients
 
 # No number of FLEET, and no minutes of 000 table 9 or of a heated stand
 TENTHS = 47
