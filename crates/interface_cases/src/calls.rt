@@ -122,6 +122,7 @@ struct GroupNumbers {
     running: u8,
     warming: u8,
     idle: u32,
+    timed: u32,
     distances: u8,
     days: u8,
     temperatures: u8,
@@ -139,10 +140,11 @@ fn group_numbers(all: &[u8; ROOM]) -> GroupNumbers {
         running: u8_at(all, 8),
         warming: u8_at(all, 9),
         idle: u32_at(all, 10),
-        distances: u8_at(all, 14),
-        days: u8_at(all, 15),
-        temperatures: u8_at(all, 16),
-        coefficients: u8_at(all, 17),
+        timed: u32_at(all, 14),
+        distances: u8_at(all, 18),
+        days: u8_at(all, 19),
+        temperatures: u8_at(all, 20),
+        coefficients: u8_at(all, 21),
     }
 }
 
@@ -169,6 +171,7 @@ fn group_of(
         g.running,
         g.warming,
         g.idle,
+        g.timed,
         &distances[0..a],
         &days[0..b],
         &temperatures[0..c],
@@ -181,14 +184,14 @@ fn group(all: &[u8; ROOM], out: &mut [u64]) -> bool {
     let mut distances = [0; 5];
     let mut temperatures = [0; 13];
     let mut coefficients = [0; 43];
-    u32s_at(all, 18, &mut distances);
-    i16s_at(all, 51, &mut temperatures);
-    u32s_at(all, 77, &mut coefficients);
+    u32s_at(all, 22, &mut distances);
+    i16s_at(all, 55, &mut temperatures);
+    u32s_at(all, 81, &mut coefficients);
     let bytes: &[u8] = all;
     group_of(
         group_numbers(all),
         &distances,
-        &bytes[38..51],
+        &bytes[42..55],
         &temperatures,
         &coefficients,
         out,

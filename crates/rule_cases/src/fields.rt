@@ -70,10 +70,6 @@ fn distances(r: &Record, at: usize) -> Distances
 
 fn days(r: &Record) -> [u8; 12] {
     [
-        u8_at(r, 72),
-        u8_at(r, 73),
-        u8_at(r, 74),
-        u8_at(r, 75),
         u8_at(r, 76),
         u8_at(r, 77),
         u8_at(r, 78),
@@ -82,6 +78,10 @@ fn days(r: &Record) -> [u8; 12] {
         u8_at(r, 81),
         u8_at(r, 82),
         u8_at(r, 83),
+        u8_at(r, 84),
+        u8_at(r, 85),
+        u8_at(r, 86),
+        u8_at(r, 87),
     ]
 }
 
@@ -99,16 +99,15 @@ pub(crate) fn group(r: &Record) -> Group {
             warming: u8_at(r, 50),
         },
         idle: Minutes(u32_at(r, 52)),
-        outward: distances(r, 56),
-        inward: distances(r, 64),
+        outward: distances(r, 60),
+        inward: distances(r, 68),
         days: days(r),
+        timed: Minutes(u32_at(r, 56)),
     }
 }
 
 pub(crate) fn temperatures(r: &Record) -> [i16; 12] {
     [
-        i16_at(r, 84),
-        i16_at(r, 86),
         i16_at(r, 88),
         i16_at(r, 90),
         i16_at(r, 92),
@@ -119,6 +118,8 @@ pub(crate) fn temperatures(r: &Record) -> [i16; 12] {
         i16_at(r, 102),
         i16_at(r, 104),
         i16_at(r, 106),
+        i16_at(r, 108),
+        i16_at(r, 110),
     ]
 }
 
@@ -142,12 +143,12 @@ fn pollutant(r: &Record, at: usize) -> Coefficients
 
 pub(crate) fn coefficients(r: &Record) -> [Coefficients; POLLUTANTS] {
     [
-        pollutant(r, 108),
-        pollutant(r, 136),
-        pollutant(r, 164),
-        pollutant(r, 192),
-        pollutant(r, 220),
-        pollutant(r, 248),
+        pollutant(r, 112),
+        pollutant(r, 140),
+        pollutant(r, 168),
+        pollutant(r, 196),
+        pollutant(r, 224),
+        pollutant(r, 252),
     ]
 }
 

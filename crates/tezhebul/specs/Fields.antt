@@ -80,8 +80,8 @@ unfoldable pub lengths : List ℕ → List ℕ → List ℤ → List ℕ → Boo
 lengths distances days temperatures coefficients = allOf (lengthTests distances days temperatures coefficients)
 
 -- a group; "flags: bit 0 emission control done, bit 1 heated stand"
-abbrev pub groupOf : ℕ → ℕ → ℕ → ℕ → ℕ → ℕ → ℕ → ℕ → ℕ → List ℕ → List ℕ → Group
-groupOf category fuel flags vehicles leaving share running warming idle distances days = record {
+abbrev pub groupOf : ℕ → ℕ → ℕ → ℕ → ℕ → ℕ → ℕ → ℕ → ℕ → ℕ → List ℕ → List ℕ → Group
+groupOf category fuel flags vehicles leaving share running warming idle timed distances days = record {
   category = category;
   fuel = fuel;
   controlled = eqb (flags % 2) 1;
@@ -94,6 +94,7 @@ groupOf category fuel flags vehicles leaving share running warming idle distance
   outward = distancesAt distances 0;
   inward = distancesAt distances 2;
   days = days;
+  timed = record { 0 = timed };
 }
 
 -- "the others zero": flags of which another bit is set are out of range

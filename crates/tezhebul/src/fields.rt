@@ -99,11 +99,12 @@ pub(crate) fn group_of(
     running: u8,
     warming: u8,
     idle: u32,
+    timed: u32,
     distances: &[u32],
     days: &[u8],
 ) -> Group
     requires { ⌜ (length (now distances) ≡ 4) × (length (now days) ≡ 12) ⌝ }
-    ensures { λ r. ⌜ r ≡ groupOf category fuel flags vehicles leaving share running warming idle (now (distances .entry)) (now (days .entry)) ⌝ }
+    ensures { λ r. ⌜ r ≡ groupOf category fuel flags vehicles leaving share running warming idle timed (now (distances .entry)) (now (days .entry)) ⌝ }
 {
     Group {
         category,
@@ -118,6 +119,7 @@ pub(crate) fn group_of(
         outward: distances_at(distances, 0),
         inward: distances_at(distances, 2),
         days: days_of(days),
+        timed: Minutes(timed),
     }
 }
 

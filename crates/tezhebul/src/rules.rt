@@ -122,13 +122,14 @@ pub extern "C" fn tezhebul_group(
     running: u8,
     warming: u8,
     idle: u32,
+    timed: u32,
     distances: &[u32],
     days: &[u8],
     temperatures: &[i16],
     coefficients: &[u32],
     out: &mut [u64],
 ) -> bool
-    ensures { λ r. ⌜ GroupGiven flags (groupOf category fuel flags vehicles leaving share running warming idle) (now (distances .entry)) (now (days .entry)) (now (temperatures .entry)) (now (coefficients .entry)) (now (out .entry)) r (now (out .exit)) ⌝ }
+    ensures { λ r. ⌜ GroupGiven flags (groupOf category fuel flags vehicles leaving share running warming idle timed) (now (distances .entry)) (now (days .entry)) (now (temperatures .entry)) (now (coefficients .entry)) (now (out .entry)) r (now (out .exit)) ⌝ }
 {
     if fields::right_lengths(distances, days, temperatures, coefficients) {
         let g = fields::group_of(
@@ -141,6 +142,7 @@ pub extern "C" fn tezhebul_group(
             running,
             warming,
             idle,
+            timed,
             distances,
             days,
         );
