@@ -23,9 +23,10 @@ use Rattle.vehicle_fields.specs.declared.group.Coefficients.{Coefficients}
 use Rattle.vehicle_factors.specs.Factors.{standardFactors, factorsInRange}
 use Rattle.vehicle_factors.specs.declared.Factors.{Factors}
 use Rattle.vehicle_factors.proofs.Standard.{standard-in-range}
+use Rattle.warmups.specs.Warmup.{timesOf}
 use Rattle.warmups.specs.Parts.{climateOf, conditionsIn, ConditionsInRange}
 use Rattle.warmups.specs.declared.warmup.Conditions.{Conditions}
-use Rattle.warmups.proofs.Conditions.{conditions-in-range}
+use Rattle.warmups.proofs.Conditions.{times-in-range, conditions-in-range}
 use Rattle.vehicles.specs.Rules.{percentOf, contributionBy, contributionOf, emissionOf, emissionCount, emissionsOf, groupAnswer}
 use Rattle.vehicles.specs.Parts.{activityOf, ActivityInRange, NeutraliserInRange, massParts, outParts, yearParts}
 use Rattle.vehicles.specs.declared.activity.Activity.{Activity}
@@ -56,11 +57,13 @@ module _ (f : Factors) (hf : factorsInRange f ≡ true) (g : Group) (ts : List �
   group-bounded =
       let y = percentOf f g p in
       let c = climateOf ts in
+      let times = timesOf f (g .category) in
+      let t = times-in-range f hf (g .category) in
       let r = ranged g hg in
-      let a : yearParts g k y (activityOf f g (c .bands)) * g .share * g .vehicles ≤ 8928000000000000000000 =
-      year-most g k y hg hk (control-most f hf g p) (activityOf f g (c .bands)) (activity-in-range g hg f hf (c .bands)) ⊗ r .share ⊗ r .vehicles in
-      let b : outParts g k y (conditionsIn f g (c .coldest)) * g .leaving ≤ 150000000000000000 =
-      out-most g k y hg hk (control-most f hf g p) (conditionsIn f g (c .coldest)) (conditions-in-range f hf g (r .timed) (c .coldest)) ⊗ r .leaving in
+      let a : yearParts g k y (activityOf times g (c .bands)) * g .share * g .vehicles ≤ 8928000000000000000000 =
+      year-most g k y hg hk (control-most f hf g p) (activityOf times g (c .bands)) (activity-in-range g hg times t (c .bands)) ⊗ r .share ⊗ r .vehicles in
+      let b : outParts g k y (conditionsIn times g (c .coldest)) * g .leaving ≤ 150000000000000000 =
+      out-most g k y hg hk (control-most f hf g p) (conditionsIn times g (c .coldest)) (conditions-in-range times t g (r .timed) (c .coldest)) ⊗ r .leaving in
       bounded emissionCount (counted f g ts k p) (omega arith) (omega arith)
 
   emission-exactly : Exactly (emitted (contributionBy f g ts k p)) (contributionBy f g ts k p .tonnes) (contributionBy f g ts k p .rate)

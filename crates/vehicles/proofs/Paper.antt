@@ -24,7 +24,7 @@ use Rattle.vehicle_fields.specs.declared.group.Coefficients.{Coefficients}
 use Rattle.vehicle_factors.specs.Factors.{standardFactors}
 use Rattle.vehicle_factors.specs.declared.Factors.{Factors}
 use Rattle.warmups.specs.Temperatures.{warmupBand, lowestOf}
-use Rattle.warmups.specs.Warmup.{tenthsIn, periodAt, minutesAt}
+use Rattle.warmups.specs.Warmup.{timesOf, tenthsIn, periodAt, minutesAt}
 use Rattle.warmups.specs.Parts.{climateOf, periodIn, conditionsIn}
 use Rattle.warmups.specs.declared.warmup.Conditions.{Conditions}
 use Rattle.warmups.proofs.Conditions.{period-same, band-at}
@@ -58,23 +58,23 @@ module _ (v : Neutraliser) (c : ℕ) where
       let s : massParts v c (w * t) (r * (d + e)) (i * (2 * u)) ≡ massParts v c (w * t) (r * d) (i * u) + runAndIdleParts v c (r * e) (i * u) = omega arith in
       rw (a, b, f, ← s) (linear x y (i * z) (w * t) (r * (d + e)) (i * (2 * u)) n)
 
-module _ (f : Factors) (g : Group) (bs : List ℕ) (k : Coefficients) (c : ℕ) where
+module _ (times : List ℕ) (g : Group) (bs : List ℕ) (k : Coefficients) (c : ℕ) where
   abbrev monthParts : ℕ → ℕ
-  monthParts m = daysParts g k c (conditionsIn f g (getD bs m 0)) (getD (g .days) m 0)
+  monthParts m = daysParts g k c (conditionsIn times g (getD bs m 0)) (getD (g .days) m 0)
 
   -- the first n months' warm-up, run and idling, each with its coefficient
   by-days : (n : ℕ) →
-      massParts (g .neutraliser) c (sumTo n (λ (m : ℕ). getD (k .warmup) (monthPeriod g bs m) noMinute .0 * monthWarmup f g bs m))
+      massParts (g .neutraliser) c (sumTo n (λ (m : ℕ). getD (k .warmup) (monthPeriod g bs m) noMinute .0 * monthWarmup times g bs m))
       (sumTo n (λ (m : ℕ). getD (k .run) (monthPeriod g bs m) noKilometre .0 * monthRun g m)) (k .idle .0 * sumTo n (monthIdle g))
       ≡ sumTo n monthParts
   unfolding outParts sumTo massParts conditionsIn
   by-days zero = omega arith
   by-days (suc n) = one-month-more (g .neutraliser) c _ _ _ _ _ _ _ _ _ _ _ ∙ ap (λ (x : ℕ). x + monthParts n) (by-days n)
 
-  year-by-days : yearParts g k c (activityOf f g bs) ≡ sumTo 12 monthParts
+  year-by-days : yearParts g k c (activityOf times g bs) ≡ sumTo 12 monthParts
   unfolding yearParts activityOf listTo sumTo
   year-by-days =
-      rw (by-months g bs (monthWarmup f g bs) (λ (p : ℕ). getD (k .warmup) p noMinute .0) 12, by-months g bs (monthRun g) (λ (p : ℕ). getD (k .run) p noKilometre .0) 12)
+      rw (by-months g bs (monthWarmup times g bs) (λ (p : ℕ). getD (k .warmup) p noMinute .0) 12, by-months g bs (monthRun g) (λ (p : ℕ). getD (k .run) p noKilometre .0) 12)
       (by-days 12)
 
 module _ (f : Factors) (g : Group) (k : Coefficients) (y : Frac) (c : ℕ) (same : y ≈ (c over 100)) where
@@ -90,53 +90,54 @@ module _ (f : Factors) (g : Group) (k : Coefficients) (y : Frac) (c : ℕ) (same
       (≈-over (2 * (k .idle .0 * g .idle .0) * c * g .neutraliser .running) 2000000000 (lit< tt) (omega arith)
       (≈-⊙ (≈-⊙ (≈-⊙ (≈-refl (k .idle .0) 10000 (lit< tt)) (≈-refl (g .idle .0) 10 (lit< tt))) same) running))
 
-  out : (t : ℤ) → outGrams g k y (periodAt g t) (minutesAt f g t) ≈ (outParts g k c (conditionsIn f g (warmupBand t)) over 2000000000)
+  out : (t : ℤ) → outGrams g k y (periodAt g t) (minutesAt f g t) ≈ (outParts g k c (conditionsIn (timesOf f (g .category)) g (warmupBand t)) over 2000000000)
   unfolding outGrams outParts massParts conditionsIn minutesAt
   out t =
       let b = warmupBand t in
       let w = getD (k .warmup) (periodIn g b) noMinute .0 in
-      let m = tenthsIn f g b in
+      let m = tenthsIn (timesOf f (g .category)) g b in
       rw (period-same g t)
       (≈-⊞
       (≈-over (2 * (w * m) * c * g .neutraliser .warming) 2000000000 (lit< tt) (omega arith)
       (≈-⊙ (≈-⊙ (≈-⊙ (≈-refl w 10000 (lit< tt)) (≈-refl m 10 (lit< tt))) same) (≈-refl (g .neutraliser .warming) 100 (lit< tt))))
       (run-and-idle (periodIn g b) (g .outward)))
 
-  back : (t : ℤ) → inGrams g k y (periodAt g t) ≈ (inParts g k c (conditionsIn f g (warmupBand t)) over 2000000000)
+  back : (t : ℤ) → inGrams g k y (periodAt g t) ≈ (inParts g k c (conditionsIn (timesOf f (g .category)) g (warmupBand t)) over 2000000000)
   unfolding inGrams conditionsIn
   back t = rw (period-same g t) (run-and-idle (periodIn g (warmupBand t)) (g .inward))
 
   month : (t : ℤ) (days : ℕ) →
-      monthGrams g k y (periodAt g t) (minutesAt f g t) days ≈ ((daysParts g k c (conditionsIn f g (warmupBand t)) days * (g .share * g .vehicles)) over 200000000000)
+      monthGrams g k y (periodAt g t) (minutesAt f g t) days ≈ ((daysParts g k c (conditionsIn (timesOf f (g .category)) g (warmupBand t)) days * (g .share * g .vehicles)) over 200000000000)
   unfolding monthGrams
   month t days =
-      ≈-over (daysParts g k c (conditionsIn f g (warmupBand t)) days * (g .share * g .vehicles)) 200000000000 (lit< tt) (omega arith)
+      ≈-over (daysParts g k c (conditionsIn (timesOf f (g .category)) g (warmupBand t)) days * (g .share * g .vehicles)) 200000000000 (lit< tt) (omega arith)
       (≈-⊙
       (≈-⊙ (≈-⊙ (≈-⊞ (out t) (back t)) (≈-refl (g .share) 100 (lit< tt))) (≈-refl (g .vehicles) 1 (lit< tt)))
       (≈-refl days 1 (lit< tt)))
 
-  year : (ts : List ℤ) → annualTonnes (minutesAt f g) g ts k y ≈ ((yearParts g k c (activityOf f g (climateOf ts .bands)) * g .share * (g .vehicles * yearUnits)) over tonneParts)
+  year : (ts : List ℤ) → annualTonnes (minutesAt f g) g ts k y ≈ ((yearParts g k c (activityOf (timesOf f (g .category)) g (climateOf ts .bands)) * g .share * (g .vehicles * yearUnits)) over tonneParts)
   unfolding annualTonnes
   year ts =
+      let times = timesOf f (g .category) in
       let b = climateOf ts .bands in
-      ≈-over (yearParts g k c (activityOf f g b) * g .share * (g .vehicles * yearUnits)) tonneParts (lit< tt) (omega arith)
+      ≈-over (yearParts g k c (activityOf times g b) * g .share * (g .vehicles * yearUnits)) tonneParts (lit< tt) (omega arith)
       (≈-per 1000000 (lit< tt)
-      (rw (sumTo-times (g .share * g .vehicles) (monthParts f g b k c) 12, ← year-by-days f g b k c)
+      (rw (sumTo-times (g .share * g .vehicles) (monthParts times g b k c) 12, ← year-by-days times g b k c)
       at (totalTo-parts (λ (m : ℕ). monthGrams g k y (periodAt g (getD ts m (pos 0))) (minutesAt f g (getD ts m (pos 0))) (getD (g .days) m 0))
-      (λ (m : ℕ). monthParts f g b k c m * (g .share * g .vehicles)) 200000000000 (lit< tt) 12
+      (λ (m : ℕ). monthParts times g b k c m * (g .share * g .vehicles)) 200000000000 (lit< tt) 12
       (λ (m : ℕ) (p : m < 12). rw (band-at ts m p) (month (getD ts m (pos 0)) (getD (g .days) m 0))))))
 
-  peak : (t : ℤ) → peakGrams (minutesAt f g) g k y t ≈ ((outParts g k c (conditionsIn f g (warmupBand t)) * g .leaving * peakUnits) over gramParts)
+  peak : (t : ℤ) → peakGrams (minutesAt f g) g k y t ≈ ((outParts g k c (conditionsIn (timesOf f (g .category)) g (warmupBand t)) * g .leaving * peakUnits) over gramParts)
   unfolding peakGrams
   peak t =
-      ≈-over (outParts g k c (conditionsIn f g (warmupBand t)) * g .leaving * peakUnits) gramParts (lit< tt) (omega arith)
+      ≈-over (outParts g k c (conditionsIn (timesOf f (g .category)) g (warmupBand t)) * g .leaving * peakUnits) gramParts (lit< tt) (omega arith)
       (≈-per 3600 (lit< tt) (≈-⊙ (out t) (≈-refl (g .leaving) 1 (lit< tt))))
 
 -- a pollutant's tonnes and rate, in exact units
 module _ (f : Factors) (g : Group) (ts : List ℤ) (k : Coefficients) (p : ℕ) where
   pub counted : Counted (contributionBy f g ts k p .tonnes) (contributionBy f g ts k p .rate)
-      (yearParts g k (percentOf f g p) (activityOf f g (climateOf ts .bands)) * g .share * (g .vehicles * yearUnits))
-      (outParts g k (percentOf f g p) (conditionsIn f g (climateOf ts .coldest)) * g .leaving * peakUnits)
+      (yearParts g k (percentOf f g p) (activityOf (timesOf f (g .category)) g (climateOf ts .bands)) * g .share * (g .vehicles * yearUnits))
+      (outParts g k (percentOf f g p) (conditionsIn (timesOf f (g .category)) g (climateOf ts .coldest)) * g .leaving * peakUnits)
   unfolding climateOf
   counted =
       let c = percentOf f g p in
@@ -144,7 +145,7 @@ module _ (f : Factors) (g : Group) (ts : List ℤ) (k : Coefficients) (p : ℕ) 
       record { annual = year f g k (controlOf f g p) c same ts; peak = peak f g k (controlOf f g p) c same (lowestOf ts) }
 
   -- its sums are what the rule gives
-  pub emission : emissionParts f g k p (activityOf f g (climateOf ts .bands)) (conditionsIn f g (climateOf ts .coldest)) ≡ emitted (contributionBy f g ts k p)
+  pub emission : emissionParts f g k p (activityOf (timesOf f (g .category)) g (climateOf ts .bands)) (conditionsIn (timesOf f (g .category)) g (climateOf ts .coldest)) ≡ emitted (contributionBy f g ts k p)
   unfolding emissionParts
   emission = let e = counted in rw (parts (e .annual), parts (e .peak))
 
@@ -153,6 +154,7 @@ pub answered : (g : Group) (ts : List ℤ) (ks : List Coefficients) → temperat
 unfolding answerIn groupAnswer emissionsIn emissionsOf emissionOf
 answered g ts ks h =
     let c = climateOf ts in
-    let e = listTo-same emissionCount (λ (p : ℕ). emissionParts standardFactors g (getD ks p noCoefficients) p (activityOf standardFactors g (c .bands)) (conditionsIn standardFactors g (c .coldest)))
+    let times = timesOf standardFactors (g .category) in
+    let e = listTo-same emissionCount (λ (p : ℕ). emissionParts standardFactors g (getD ks p noCoefficients) p (activityOf times g (c .bands)) (conditionsIn times g (c .coldest)))
     (λ (p : ℕ). emitted (contributionOf g ts (getD ks p noCoefficients) p)) (λ (p : ℕ) (l : p < emissionCount). emission standardFactors g ts (getD ks p noCoefficients) p) in
     rw (in-range-is g ts ks, h, e)

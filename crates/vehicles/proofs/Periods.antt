@@ -16,8 +16,7 @@ use Rattle.sums.proofs.Products.{_⊗_}
 use Rattle.vehicle_fields.specs.Fields.{groupInRange, coefficientsInRange}
 use Rattle.vehicle_fields.specs.declared.group.Group.{Group}
 use Rattle.vehicle_fields.specs.declared.group.Coefficients.{Coefficients}
-use Rattle.vehicle_factors.specs.Factors.{factorsInRange}
-use Rattle.vehicle_factors.specs.declared.Factors.{Factors}
+use Rattle.warmups.specs.Parts.{TimesInRange}
 use Rattle.warmups.proofs.Conditions.{period-below, tenths-most}
 use Rattle.vehicles.specs.Parts.{inPeriod, dayRun, monthPeriod, monthWarmup, monthRun, monthIdle, activityOf, warmupParts, runParts, ActivityInRange}
 use Rattle.vehicles.specs.declared.activity.Activity.{Activity}
@@ -79,14 +78,14 @@ module _ (g : Group) (h : groupInRange g ≡ true) where
   pub idle-most : (m : ℕ) → m < 12 → monthIdle g m ≤ 15500
   idle-most m p = let r = ranged g h in days (g .days) (r .days) m p ⊗ (le-refl 2 ⊗ r .idle)
 
-  module _ (f : Factors) (hf : factorsInRange f ≡ true) (bs : List ℕ) where
-    pub warmup-most : (m : ℕ) → m < 12 → monthWarmup f g bs m ≤ 9300
-    warmup-most m p = days (g .days) (ranged g h .days) m p ⊗ tenths-most f hf g (ranged g h .timed) (getD bs m 0)
+  module _ (times : List ℕ) (t : TimesInRange times) (bs : List ℕ) where
+    pub warmup-most : (m : ℕ) → m < 12 → monthWarmup times g bs m ≤ 9300
+    warmup-most m p = days (g .days) (ranged g h .days) m p ⊗ tenths-most times t g (ranged g h .timed) (getD bs m 0)
 
-    pub activity-in-range : ActivityInRange (activityOf f g bs)
+    pub activity-in-range : ActivityInRange (activityOf times g bs)
     unfolding activityOf listTo sumTo
     activity-in-range = record {
-      warmup = together g bs (monthWarmup f g bs) 9300 12 warmup-most;
+      warmup = together g bs (monthWarmup times g bs) 9300 12 warmup-most;
       run = together g bs (monthRun g) 2480000 12 run-most;
       idle = sumTo-bound 15500 (monthIdle g) 12 idle-most;
     }

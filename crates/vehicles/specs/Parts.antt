@@ -17,7 +17,7 @@ use Rattle.vehicle_fields.specs.declared.group.Distances.{Distances}
 use Rattle.vehicle_fields.specs.declared.group.Neutraliser.{Neutraliser}
 use Rattle.vehicle_fields.specs.declared.group.Group.{Group}
 use Rattle.vehicle_fields.specs.declared.group.Coefficients.{Coefficients}
-use Rattle.warmups.specs.Warmup.{tenthsIn}
+use Rattle.warmups.specs.Warmup.{timesOf, tenthsIn}
 use Rattle.warmups.specs.Parts.{tenths, periodIn, conditionsIn}
 use Rattle.warmups.specs.declared.climate.Climate.{Climate}
 use Rattle.warmups.specs.declared.warmup.Conditions.{Conditions}
@@ -39,12 +39,12 @@ dayRun g = metres (distanceSum (g .outward) .0 + distanceSum (g .inward) .0)
 abbrev pub dayIdle : Group → Minutes
 dayIdle g = tenths (2 * g .idle .0)
 
--- in a month, by the months' bands: its period, and over its days worked the warm-up, the run and the idling
+-- in a month, by the times of the group's category and the months' bands: its period, and over its days worked the warm-up, the run and the idling
 abbrev pub monthPeriod : Group → List ℕ → ℕ → ℕ
 monthPeriod g bs m = periodIn g (getD bs m 0)
 
-abbrev pub monthWarmup : Factors → Group → List ℕ → ℕ → ℕ
-monthWarmup f g bs m = getD (g .days) m 0 * tenthsIn f g (getD bs m 0)
+abbrev pub monthWarmup : List ℕ → Group → List ℕ → ℕ → ℕ
+monthWarmup times g bs m = getD (g .days) m 0 * tenthsIn times g (getD bs m 0)
 
 abbrev pub monthRun : Group → ℕ → ℕ
 monthRun g m = getD (g .days) m 0 * dayRun g .0
@@ -57,9 +57,9 @@ unfoldable pub inPeriod : Group → List ℕ → (ℕ → ℕ) → ℕ → ℕ �
 inPeriod g bs of n p = sumTo n (λ (m : ℕ). if_then_else (eqb p (monthPeriod g bs m)) (of m) 0)
 
 -- the year
-unfoldable pub activityOf : Factors → Group → List ℕ → Activity
-activityOf f g bs = record {
-  warmup = listTo 3 (λ (p : ℕ). tenths (inPeriod g bs (monthWarmup f g bs) 12 p));
+unfoldable pub activityOf : List ℕ → Group → List ℕ → Activity
+activityOf times g bs = record {
+  warmup = listTo 3 (λ (p : ℕ). tenths (inPeriod g bs (monthWarmup times g bs) 12 p));
   run = listTo 3 (λ (p : ℕ). metres (inPeriod g bs (monthRun g) 12 p));
   idle = tenths (sumTo 12 (monthIdle g));
 }
@@ -105,7 +105,8 @@ emissionParts f g k p a coldest = record {
 -- each pollutant's, with its own coefficients, in a climate
 unfoldable pub emissionsIn : Factors → Group → Climate → List Coefficients → List Emission
 emissionsIn f g c ks =
-    listTo emissionCount (λ (p : ℕ). emissionParts f g (getD ks p noCoefficients) p (activityOf f g (c .bands)) (conditionsIn f g (c .coldest)))
+    let times = timesOf f (g .category) in
+    listTo emissionCount (λ (p : ℕ). emissionParts f g (getD ks p noCoefficients) p (activityOf times g (c .bands)) (conditionsIn times g (c .coldest)))
 
 -- the answer of a group in a climate, by the standard factors: what the rule answers at the temperatures that decide it (`Paper.answered`)
 unfoldable pub answerIn : Group → Climate → List Coefficients → GroupAnswer

@@ -3,11 +3,11 @@ ghost use mathlib.Core.Path.{_≡_};
 ghost use mathlib.Core.Bool.{true};
 ghost use Prim.Native.Nat.{_+_, _≤_};
 ghost use Rattle.vehicle_fields.specs.Fields.{groupInRange, coefficientsInRange};
-ghost use Rattle.vehicle_factors.specs.Factors.{factorsInRange};
+ghost use Rattle.warmups.specs.Parts.{TimesInRange};
 ghost use Rattle.vehicles.specs.Parts.{ActivityInRange, activityOf, dayRun, dayIdle, warmupParts, runParts};
 use super::arithmetic;
 use super::trip;
-use vehicle_factors::Factors;
+use vehicle_factors::BANDS;
 use vehicle_fields::Coefficients;
 use vehicle_fields::Group;
 use vehicle_fields::Metres;
@@ -38,10 +38,10 @@ fn day_idle(g: Group) -> Minutes
     Minutes(2 * g.idle.0)
 }
 
-// The year, in months of these bands.
-pub(crate) fn activity_of(f: Factors, g: Group, bands: [u8; 12]) -> Activity
-    requires { ⌜ (factorsInRange f ≡ true) × (groupInRange g ≡ true) ⌝ }
-    ensures { λ r. ⌜ r ≡ activityOf f g bands ⌝ }
+// The year, in months of these bands, by the times of the group's category.
+pub(crate) fn activity_of(times: [u16; BANDS], g: Group, bands: [u8; 12]) -> Activity
+    requires { ⌜ (groupInRange g ≡ true) × TimesInRange times ⌝ }
+    ensures { λ r. ⌜ r ≡ activityOf times g bands ⌝ }
 {
     let days = g.days;
     let run = day_run(g);
@@ -51,7 +51,7 @@ pub(crate) fn activity_of(f: Factors, g: Group, bands: [u8; 12]) -> Activity
     let mut idling = Minutes(0);
     let mut i = 0;
     while i < 12 {
-        let w = warmups::conditions_in(f, g, bands[i]);
+        let w = warmups::conditions_in(times, g, bands[i]);
         let period = w.period;
         let t = w.minutes;
         let n = days[i];

@@ -114,9 +114,10 @@ fn emissions_in(
     requires { ⌜ (factorsInRange f ≡ true) × (groupInRange g ≡ true) × (allInRange ks ≡ true) ⌝ }
     ensures { λ r. ⌜ r ≡ emissionsIn f g c ks ⌝ }
 {
+    let times = warmups::times_of(f, g.category);
     let bands = c.bands;
-    let a = activity::activity_of(f, g, bands);
-    let coldest = warmups::conditions_in(f, g, c.coldest);
+    let a = activity::activity_of(times, g, bands);
+    let coldest = warmups::conditions_in(times, g, c.coldest);
     let mut emissions = [Emission::none(); EMISSIONS];
     let mut p = 0;
     while p < EMISSIONS {

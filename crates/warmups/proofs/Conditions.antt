@@ -19,7 +19,7 @@ use Rattle.vehicle_factors.specs.declared.Factors.{Factors}
 use Rattle.vehicle_factors.proofs.Ranges.{ranged-factors}
 use Rattle.warmups.specs.Temperatures.{below, place, periodOf, warmupBand}
 use Rattle.warmups.specs.Warmup.{timesOf, untimedIn, untimedAt, tenthsIn, minutesAt, periodAt}
-use Rattle.warmups.specs.Parts.{climateOf, bandPeriod, periodIn, conditionsIn, ConditionsInRange}
+use Rattle.warmups.specs.Parts.{climateOf, bandPeriod, periodIn, conditionsIn, TimesInRange, ConditionsInRange}
 
 -- both are counted from 5.0 and then from -5.0
 of-band : (t : ℤ) → periodOf t ≡ bandPeriod (warmupBand t)
@@ -48,22 +48,22 @@ pub period-below : (g : Group) (band : ℕ) → periodIn g band < 3
 unfolding periodIn bandPeriod
 period-below g band = both Three (g .heated) (lit< tt) (cases Three (ltb band 2) (λ h. omega (arith, ltb-true band 2 h)) (λ _. lit< tt))
 
+pub times-in-range : (f : Factors) → factorsInRange f ≡ true → (category : ℕ) → TimesInRange (timesOf f category)
+unfolding timesOf
+times-in-range f h category band =
+    let r = ranged-factors f h in
+    let At : List ℕ → Type 0 = λ (l : List ℕ). getD l band 0 ≤ 300 in
+    both At (eqb category 1) (r .car band) (both At (eqb category 2) (r .truck band) (r .bus band))
+
 abbrev Most : ℕ → Type 0
 Most n = n ≤ 300
 
-module _ (f : Factors) (h : factorsInRange f ≡ true) (g : Group) (t : g .timed .0 ≤ 250) (band : ℕ) where
-  untimed-most : untimedIn f g band ≤ 300
-  unfolding untimedIn timesOf
-  untimed-most =
-      let r = ranged-factors f h in
-      let At : List ℕ → Type 0 = λ (l : List ℕ). Most (getD l band 0) in
-      both Most (g .heated) (omega arith) (both At (eqb (g .category) 1) (r .car band) (both At (eqb (g .category) 2) (r .truck band) (r .bus band)))
+module _ (times : List ℕ) (h : TimesInRange times) (g : Group) (t : g .timed .0 ≤ 250) (band : ℕ) where
+  pub tenths-most : tenthsIn times g band ≤ 300
+  unfolding tenthsIn untimedIn
+  tenths-most = both Most (eqb (g .timed .0) 0) (both Most (g .heated) (omega arith) (h band)) (omega arith)
 
-  pub tenths-most : tenthsIn f g band ≤ 300
-  unfolding tenthsIn
-  tenths-most = both Most (eqb (g .timed .0) 0) untimed-most (omega arith)
-
-  pub conditions-in-range : ConditionsInRange (conditionsIn f g band)
+  pub conditions-in-range : ConditionsInRange (conditionsIn times g band)
   unfolding conditionsIn
   conditions-in-range = record { period = period-below g band; minutes = tenths-most }
 

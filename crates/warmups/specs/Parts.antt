@@ -5,7 +5,6 @@ use lib.Dec.{ltb}
 use lib.IntN.{ℤ, pos}
 use lib.ListN.{getD}
 use Rattle.sums.specs.Choice.{if_then_else, listTo}
-use Rattle.vehicle_factors.specs.declared.Factors.{Factors}
 use Rattle.vehicle_fields.specs.declared.units.Minutes.{Minutes}
 use Rattle.vehicle_fields.specs.declared.group.Group.{Group}
 use Rattle.warmups.specs.Temperatures.{warmupBand, lowestOf}
@@ -28,10 +27,14 @@ periodIn g band = if_then_else (g .heated) 0 (bandPeriod band)
 abbrev pub tenths : ℕ → Minutes
 tenths n = record { 0 = n }
 
-unfoldable pub conditionsIn : Factors → Group → ℕ → Conditions
-conditionsIn f g band = record { period = periodIn g band; minutes = tenths (tenthsIn f g band) }
+-- by the times of the group's category
+unfoldable pub conditionsIn : List ℕ → Group → ℕ → Conditions
+conditionsIn times g band = record { period = periodIn g band; minutes = tenths (tenthsIn times g band) }
 
 -- how large they are at most: there are three periods, and no warm-up is longer than 30 minutes
+abbrev pub TimesInRange : List ℕ → Type 0
+TimesInRange times = (band : ℕ) → getD times band 0 ≤ 300
+
 pub record ConditionsInRange (w : Conditions) : Type 0 where
   pub period : w .period < 3
   pub minutes : w .minutes .0 ≤ 300

@@ -15,19 +15,19 @@ use Rattle.warmups.specs.Temperatures.{periodOf, warmupBand}
 unfoldable pub timesOf : Factors → ℕ → List ℕ
 timesOf f category = if_then_else (eqb category 1) (f .car) (if_then_else (eqb category 2) (f .truck) (f .bus))
 
--- "Warm-up minutes (000 Table 9 ...)" at a band of temperature, in tenths; "A heated stand has 1.5 minutes ... all year (003)"
-unfoldable pub untimedIn : Factors → Group → ℕ → ℕ
-untimedIn f g band = if_then_else (g .heated) 15 (getD (timesOf f (g .category)) band 0)
+-- "Warm-up minutes (000 Table 9 ...)" by the times of a row at a band of temperature, in tenths; "A heated stand has 1.5 minutes ... all year (003)"
+unfoldable pub untimedIn : List ℕ → Group → ℕ → ℕ
+untimedIn times g band = if_then_else (g .heated) 15 (getD times band 0)
 
 abbrev pub untimedAt : Factors → Group → ℤ → Frac
-untimedAt f g t = untimedIn f g (warmupBand t) over 10
+untimedAt f g t = untimedIn (timesOf f (g .category)) g (warmupBand t) over 10
 
 -- 02, U2: "tenths of a minute, 1 to 250, or 0 for untimed. A timed value replaces the table and the heated stand's 1.5 minutes"
-unfoldable pub tenthsIn : Factors → Group → ℕ → ℕ
-tenthsIn f g band = if_then_else (eqb (g .timed .0) 0) (untimedIn f g band) (g .timed .0)
+unfoldable pub tenthsIn : List ℕ → Group → ℕ → ℕ
+tenthsIn times g band = if_then_else (eqb (g .timed .0) 0) (untimedIn times g band) (g .timed .0)
 
 unfoldable pub minutesAt : Factors → Group → ℤ → Frac
-minutesAt f g t = tenthsIn f g (warmupBand t) over 10
+minutesAt f g t = tenthsIn (timesOf f (g .category)) g (warmupBand t) over 10
 
 -- "A heated stand has ... warm-period coefficients all year (003)", and timed "the heated stand's warm coefficients stay"
 unfoldable pub periodAt : Group → ℤ → ℕ

@@ -7,3 +7,4 @@ pub use climate::Climate;
 pub use climate::climate_of;
 pub use warmup::Conditions;
 pub use warmup::conditions_in;
+pub use warmup::times_of;

@@ -15,7 +15,8 @@ pub struct Conditions {
     pub minutes: Minutes,
 }
 
-fn times_of(f: Factors, category: u8) -> [u16; BANDS]
+// The row of a category.
+pub fn times_of(f: Factors, category: u8) -> [u16; BANDS]
     ensures { λ r. ⌜ r ≡ timesOf f category ⌝ }
 {
     match category {
@@ -33,24 +34,24 @@ fn time_at(times: [u16; BANDS], band: u8) -> u32
     if at < BANDS { times[at] as u32 } else { 0 }
 }
 
-fn untimed_in(f: Factors, g: Group, band: u8) -> Minutes
-    ensures { λ r. ⌜ r ≡ tenths (untimedIn f g band) ⌝ }
+fn untimed_in(times: [u16; BANDS], g: Group, band: u8) -> Minutes
+    ensures { λ r. ⌜ r ≡ tenths (untimedIn times g band) ⌝ }
 {
     if g.heated {
         Minutes(15)
     } else {
-        Minutes(time_at(times_of(f, g.category), band))
+        Minutes(time_at(times, band))
     }
 }
 
-fn minutes_in(f: Factors, g: Group, band: u8) -> Minutes
-    ensures { λ r. ⌜ r ≡ tenths (tenthsIn f g band) ⌝ }
+fn minutes_in(times: [u16; BANDS], g: Group, band: u8) -> Minutes
+    ensures { λ r. ⌜ r ≡ tenths (tenthsIn times g band) ⌝ }
 {
     let timed = g.timed;
     if 0 < timed.0 {
         timed
     } else {
-        untimed_in(f, g, band)
+        untimed_in(times, g, band)
     }
 }
 
@@ -66,11 +67,11 @@ fn period_in(g: Group, band: u8) -> usize
     if g.heated { 0 } else { band_period(band) }
 }
 
-pub fn conditions_in(f: Factors, g: Group, band: u8) -> Conditions
-    ensures { λ r. ⌜ (r ≡ conditionsIn f g band) × (r .period < 3) ⌝ }
+pub fn conditions_in(times: [u16; BANDS], g: Group, band: u8) -> Conditions
+    ensures { λ r. ⌜ (r ≡ conditionsIn times g band) × (r .period < 3) ⌝ }
 {
     Conditions {
         period: period_in(g, band),
-        minutes: minutes_in(f, g, band),
+        minutes: minutes_in(times, g, band),
     }
 }

@@ -14,14 +14,14 @@ use Rattle.vehicles.proofs.activity.activity_of.Statement.{statement}
 use Rattle.vehicles.proofs.activity.activity_of.Tie as tie
 
 abbrev Inv-loop : tie.InvT-loop
-Inv-loop f g bands days run idle minutes₀ metres₀ idling₀ i₀ warm runs idling i =
+Inv-loop times g bands days run idle minutes₀ metres₀ idling₀ i₀ warm runs idling i =
     (i ≤ 12) × (length warm ≡ 3) × (length runs ≡ 3)
-    × ((p : ℕ) → p < 3 → getD warm p (tenths 0) ≡ tenths (inPeriod g bands (monthWarmup f g bands) i p))
+    × ((p : ℕ) → p < 3 → getD warm p (tenths 0) ≡ tenths (inPeriod g bands (monthWarmup times g bands) i p))
     × ((p : ℕ) → p < 3 → getD runs p (metres 0) ≡ metres (inPeriod g bands (monthRun g) i p))
     × (idling ≡ tenths (sumTo i (monthIdle g)))
 
 abbrev μ-loop : tie.MeasureT-loop
-μ-loop f g bands days run idle minutes₀ metres₀ idling₀ i₀ warm runs idling i = 12 - i
+μ-loop times g bands days run idle minutes₀ metres₀ idling₀ i₀ warm runs idling i = 12 - i
 
 loop-holds : tie.Need-loop-holds Inv-loop μ-loop
 unfolding inPeriod sumTo
@@ -40,8 +40,8 @@ warmup-fits c κs =
     let bs = s .args .t3 in
     let w = a .conditions-in .ensures in (
       rw (b .loop .inv .3 _ (w .1))
-          (omega (arith, alone g bs (monthWarmup (s .args .f) g bs) 9300 (b .loop .i) (λ m l. warmup-most g (s .pre .1) (s .args .f) (s .pre .0) bs m (of-year b m l)) (a .conditions-in .result .period))),
-      rw (w .0) (omega (arith, conditions-in-range (s .args .f) (s .pre .0) g (ranged g (s .pre .1) .timed) (getD bs (b .loop .i) 0) .minutes)),
+          (omega (arith, alone g bs (monthWarmup (s .args .times) g bs) 9300 (b .loop .i) (λ m l. warmup-most g (s .pre .0) (s .args .times) (s .pre .1) bs m (of-year b m l)) (a .conditions-in .result .period))),
+      rw (w .0) (omega (arith, conditions-in-range (s .args .times) (s .pre .1) g (ranged g (s .pre .0) .timed) (getD bs (b .loop .i) 0) .minutes)),
     )
 
 run-fits : tie.Need-more-metres-requires Inv-loop μ-loop
@@ -52,8 +52,8 @@ run-fits c κs =
     let g = s .args .g in
     let bs = s .args .t3 in (
       rw (b .loop .inv .4 _ (a .conditions-in .ensures .1))
-          (omega (arith, alone g bs (monthRun g) 2480000 (b .loop .i) (λ m l. run-most g (s .pre .1) m (of-year b m l)) (a .conditions-in .result .period))),
-      rw (b .before .before .day-run .ensures) (day-run g (s .pre .1)),
+          (omega (arith, alone g bs (monthRun g) 2480000 (b .loop .i) (λ m l. run-most g (s .pre .0) m (of-year b m l)) (a .conditions-in .result .period))),
+      rw (b .before .before .day-run .ensures) (day-run g (s .pre .0)),
     )
 
 idling-fits : tie.Need-more-minutes-requires-2 Inv-loop μ-loop
@@ -62,8 +62,8 @@ idling-fits c κs =
     let b = a .before .before in
     let s = b .before .before .before .before in
     let g = s .args .g in (
-      rw (b .loop .inv .5) (omega (arith, sumTo-bound 15500 (monthIdle g) (b .loop .i) (λ m l. idle-most g (s .pre .1) m (of-year b m l)))),
-      rw (b .before .day-idle .ensures) (omega (arith, ranged g (s .pre .1) .idle)),
+      rw (b .loop .inv .5) (omega (arith, sumTo-bound 15500 (monthIdle g) (b .loop .i) (λ m l. idle-most g (s .pre .0) m (of-year b m l)))),
+      rw (b .before .day-idle .ensures) (omega (arith, ranged g (s .pre .0) .idle)),
     )
 
 loop-again : tie.Need-loop-again Inv-loop μ-loop
@@ -80,7 +80,7 @@ loop-again c =
       omega arith,
       simp length-set (b .loop .inv .1),
       simp length-set (b .loop .inv .2),
-      added (s .g) bs (monthWarmup (s .f) (s .g) bs) (tenths 0) tenths (b .loop .minutes) (b .loop .i) q (m .more-minutes .result)
+      added (s .g) bs (monthWarmup (s .times) (s .g) bs) (tenths 0) tenths (b .loop .minutes) (b .loop .i) q (m .more-minutes .result)
           (rw e) (omega arith) (b .loop .inv .3) (ap tenths (m .more-minutes .ensures ∙ rw (b .loop .inv .3 q l, e))),
       added (s .g) bs (monthRun (s .g)) (metres 0) metres (b .loop .metres) (b .loop .i) q (c .before .more-metres .result)
           (rw e) (omega arith) (b .loop .inv .4) (ap metres (c .before .more-metres .ensures ∙ rw (b .loop .inv .4 q l, b .before .before .day-run .ensures))),
@@ -95,7 +95,7 @@ returns c =
     let e : b .loop .i ≡ 12 = omega arith in
     let v = rw e at (b .loop .inv) in
     rw (
-      listTo-is (tenths 0) 3 (b .loop .minutes) (λ (p : ℕ). tenths (inPeriod (s .g) (s .t3) (monthWarmup (s .f) (s .g) (s .t3)) 12 p)) (v .1) (v .3),
+      listTo-is (tenths 0) 3 (b .loop .minutes) (λ (p : ℕ). tenths (inPeriod (s .g) (s .t3) (monthWarmup (s .times) (s .g) (s .t3)) 12 p)) (v .1) (v .3),
       listTo-is (metres 0) 3 (b .loop .metres) (λ (p : ℕ). metres (inPeriod (s .g) (s .t3) (monthRun (s .g)) 12 p)) (v .2) (v .4),
       v .5,
     )
@@ -104,8 +104,8 @@ pub activity-of-spec : {M : Type 1} → statement M
 activity-of-spec =
     tie.close
     (tie.spec Inv-loop μ-loop
-    (λ c κs. c .before .pre .1)
-    (λ c κs. let s = c .before .before in ranged (s .args .g) (s .pre .1) .idle)
+    (λ c κs. c .before .pre .0)
+    (λ c κs. let s = c .before .before in ranged (s .args .g) (s .pre .0) .idle)
     loop-holds (omega arith) (omega arith) (omega arith) (omega arith) (omega arith) warmup-fits (omega arith) (omega arith)
     (omega arith) (omega arith) run-fits (omega arith) (omega arith) idling-fits (omega arith) (omega arith)
     loop-again returns)

@@ -1,8 +1,6 @@
 -- A heated stand has 15 tenths, another what its row says.
 use native.Mathlib.Omega.{arith}
-use mathlib.Core.Path.{refl, ap, _∙_}
-use mathlib.Core.List.{List}
-use lib.ListN.{getD}
+use mathlib.Core.Path.{refl, ap}
 use Rattle.sums.proofs.Choices.{yes, no}
 use Rattle.warmups.specs.Warmup.{untimedIn}
 use Rattle.warmups.specs.Parts.{tenths}
@@ -13,8 +11,6 @@ pub untimed-in-spec : {M : Type 1} → statement M
 unfolding untimedIn
 untimed-in-spec =
     tie.close
-    (tie.spec (omega arith) (omega arith)
+    (tie.spec (omega arith)
     (λ c. ap tenths (yes _ _ _ _ (c .if1 .taken) refl))
-    (λ c.
-    let b = c .before .before in
-    ap tenths (no _ _ _ _ (b .if1 .left) (c .time-at .ensures ∙ ap (λ l. getD l (b .before .args .band) 0) (c .before .times-of .ensures)))))
+    (λ c. ap tenths (no _ _ _ _ (c .before .if1 .left) (c .time-at .ensures))))
