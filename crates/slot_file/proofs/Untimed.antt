@@ -1,21 +1,20 @@
 -- A file with byte 36 zero in every group is answered as before warm-ups were timed. Question 9 of such a group asks what 01 asks, and a slot of another kind is
 -- refused before it; so the walk is the same. And the minutes of a group with zero there are the table's or the heated stand's. Assumes nothing.
 use Prim.Native.Nat.{ℕ, zero, suc}
-use mathlib.Core.Path.{_≡_, refl, sym, ap, _∙_}
+use mathlib.Core.Path.{_≡_, refl, ap, _∙_}
 use mathlib.Core.Bool.{Bool, true, false, _&&_}
 use mathlib.Core.List.{List, [], _∷_, _++_}
-use lib.Dec.{leb, eqb}
+use lib.Dec.{eqb}
 use lib.IntN.{ℤ}
 use lib.ListN.{getD}
-use Rattle.sums.specs.Choice.{if_then_else, allOf, listTo}
-use Rattle.sums.proofs.Choices.{listTo-same}
+use Rattle.sums.specs.Choice.{if_then_else, listTo}
 use Rattle.sums.specs.Fraction.{Frac}
 use Rattle.sums.specs.Answer.{Contribution}
-use Rattle.vehicle_fields.specs.Fields.{noCoefficients, untimedTests, groupInRange}
+use Rattle.vehicle_fields.specs.Fields.{noCoefficients, groupInRange}
 use Rattle.vehicle_factors.specs.Factors.{standardFactors}
 use Rattle.warmups.specs.Warmup.{minutesAt, untimedAt}
 use Rattle.warmups.proofs.Conditions.{untimed}
-use Rattle.vehicles.specs.Rules.{emissionCount, contributionWith, contributionOf}
+use Rattle.vehicles.specs.Rules.{emissionCount, contributionWith}
 use Rattle.slots.specs.Bytes.{byteAt, zeroFrom, slotOf}
 use Rattle.slots.specs.Layout.{groupOf, groupKind, groupGood, groupRead, nextOf}
 use Rattle.slot_file.specs.Sources.{groupAt, VehicleGroup, temperaturesAt, headerAt, Chains, inventoryAt}

@@ -9,7 +9,7 @@ use lib.Dec.{ltb, eqb, lit<}
 use lib.IntN.{ℤ, pos}
 use lib.ListN.{getD}
 use lib.Signed.{ltZ}
-use Rattle.sums.specs.Choice.{if_then_else, listTo}
+use Rattle.sums.specs.Choice.{if_then_else}
 use Rattle.sums.specs.Fraction.{_over_}
 use Rattle.sums.proofs.Choices.{no, cases, both, listTo-at}
 use Rattle.vehicle_fields.specs.Fields.{minus}

@@ -1,10 +1,9 @@
 -- The two tests choose the answer; a group in range, with the standard factors, has what the emissions ask.
 use native.Mathlib.Omega.{arith}
-use mathlib.Core.Path.{_≡_, refl, _∙_, sym}
+use mathlib.Core.Path.{_≡_, _∙_, sym}
 use mathlib.Core.Bool.{true}
 use Rattle.sums.proofs.Choices.{yes, no}
 use Rattle.vehicle_fields.specs.Fields.{sourceInRange}
-use Rattle.vehicle_factors.specs.Factors.{factorsInRange}
 use Rattle.vehicle_factors.proofs.Standard.{standard-in-range}
 use Rattle.vehicles.specs.Parts.{answerIn}
 use Rattle.vehicles.proofs.Ranges.{source-in-range}

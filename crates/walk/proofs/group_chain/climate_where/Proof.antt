@@ -1,6 +1,5 @@
 -- Where they are wanted, the year's bands.
 use native.Mathlib.Omega.{arith}
-use mathlib.Core.Path.{_≡_}
 use Rattle.walk.proofs.group_chain.climate_where.Statement.{statement}
 use Rattle.walk.proofs.group_chain.climate_where.Tie as tie
 

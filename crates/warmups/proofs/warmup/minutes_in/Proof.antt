@@ -1,6 +1,6 @@
 -- A timed value is above 0, and replaces what an untimed group has.
 use native.Mathlib.Omega.{arith}
-use mathlib.Core.Path.{refl, ap, _∙_}
+use mathlib.Core.Path.{refl, ap}
 use borrow.Author.Tests.{eq-eqb, ne-eqb}
 use Rattle.vehicle_fields.specs.declared.units.Minutes.{Minutes}
 use Rattle.sums.proofs.Choices.{yes, no}
