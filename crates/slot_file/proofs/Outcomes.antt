@@ -69,11 +69,11 @@ module _ (asks : List ℕ → ℕ → List Question) (end : List ℕ → Outcome
   unfolding chain if_then_else
   stop n b = refl
 
-  walked : (from : ℕ) → ((b : List ℕ) (link : ℕ) → Reached asks s from b link → length b < mostSlots) → Walks asks s from (chain asks end mostSlots s [] from) end
+  pub walked : (from : ℕ) → ((b : List ℕ) (link : ℕ) → Reached asks s from b link → length b < mostSlots) → Walks asks s from (chain asks end mostSlots s [] from) end
   walked from short = walks asks s from (λ n b k. chain asks end n s b k) end turn stop short
 
 module _ (s : List ℕ) (h : AllYes (headAsks s)) where
-  group-walk : Walks (λ (b : List ℕ). groupAsks s (groupsSoFar b)) s (headerAt s .heads .groups) (groupWalk s) (λ b. storeWalk s (groupsSoFar b))
+  pub group-walk : Walks (λ (b : List ℕ). groupAsks s (groupsSoFar b)) s (headerAt s .heads .groups) (groupWalk s) (λ b. storeWalk s (groupsSoFar b))
   unfolding groupWalk
   group-walk =
       walked (λ b. groupAsks s (groupsSoFar b)) (λ b. storeWalk s (groupsSoFar b)) s (headerAt s .heads .groups)
@@ -98,7 +98,7 @@ module _ (s : List ℕ) (h : AllYes (headAsks s)) where
       let d = different-short (slotCount s) (sourcesOf (locomotivesSoFar c b)) (sized s h) (locomotives-differ s c b _ link k (u .chain) (u .good)) in
       omega (arith, length-append b (c .stores ++ c .groups)))
 
-  headed : outcome s ≡ groupWalk s
+  pub headed : outcome s ≡ groupWalk s
   unfolding outcome
   headed = first-yes (headAsks s) (groupWalk s) h
 

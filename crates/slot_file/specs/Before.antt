@@ -1,4 +1,4 @@
--- What 01 alone says of a file: two chains, question 4 over 32..63, and the sums over groups and store records. A file with zeros in 32..33 is answered so, and its
+-- What was said of a file before there were locomotives: two chains, question 4 over 32..63, and the sums over groups and store records. A file with zeros in 32..33 is answered so, and its
 -- third count is 0 (`proofs/Before.as-before`). What is asked of a group or a store record, and what it gives, is today's; of a group
 -- that is not timed it is 01's (`Untimed`).
 use Prim.Native.Nat.{ℕ}

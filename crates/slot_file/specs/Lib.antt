@@ -8,8 +8,8 @@ pub mod Codes
 pub mod Figures
 pub mod Alike
 pub mod Listing
+pub mod Untimed
 pub mod Surveyed
 pub mod Demands
 pub mod Before
-pub mod Untimed
 pub mod Parts

@@ -18,6 +18,7 @@ use Rattle.slot_file.specs.Walk.{outcome}
 use Rattle.slot_file.specs.Codes.{codes}
 use Rattle.slot_file.specs.Figures.{refusal, answer}
 use Rattle.slot_file.specs.Alike.{AlikeFiles}
+use Rattle.slot_file.specs.Untimed.{untimedOutcome, untimedSummed}
 use Rattle.slot_file.specs.Listing.{Listed, listed, text, decimal, padded, printed}
 
 -- two and four bytes, little-endian, and a slot filled up with zeros
@@ -218,6 +219,9 @@ locomotives =
     (sheet (exhaust " 1.688400 1.4777778" " 8.607200 5.1166667" " 0.162400 0.1444444") 0 0 2)
     ∷ []
 
+abbrev chains : List ℕ → List ℕ → List ℕ → Chains
+chains gs ss ls = record { groups = gs; stores = ss; locomotives = ls }
+
 -- ---- not of 01's examples: timed warm-ups, by hand from 01 and 02. B's yard with flags, timed, at a temperature; its CO has 4, 5 and 6 g a minute in the warm,
 -- transitional and cold period. A byte may follow
 abbrev stand : ℕ → List ℕ → List ℕ → List ℕ
@@ -240,6 +244,12 @@ timedStands =
     ∷ timedStand 2 25 (below 200) " 0.021600 0.0155556"  -- heated: 2.5 minutes and not 1.5, of the warm period: 10 + 4 out
     ∷ given (stand 0 (0 ∷ []) (below 200)) (150 over 10 ∷ []) (sheet (only 337 " 0.117600 0.1044444") 1 0 0)  -- untimed: 90 + 4 out
     ∷ []
+
+-- before warm-ups were timed: the file of a timed stand was refused, that of one which is not timed was accepted; and a stand gave what one gives that is not timed
+pub record StandsBefore : Type 0 where
+  pub timed : untimedOutcome (stand 0 (25 ∷ []) (below 200)) ≡ refused 9 1
+  pub accepted-then : untimedOutcome (stand 0 (0 ∷ []) (below 200)) ≡ accepted (chains (1 ∷ []) [] [])
+  pub gave : printed (untimedSummed (inventoryAt (stand 0 (25 ∷ []) (below 200)) (chains (1 ∷ []) [] []))) ≡ sheet (only 337 " 0.117600 0.1044444") 1 0 0
 
 -- a listing of an answer in a lent buffer of n bytes, and B's: one byte too short, as long, and longer
 abbrev lentOf : Answer → ℕ → Listed
@@ -328,9 +338,6 @@ pub record Desks (s t : List ℕ) (c d : Chains) : Type 0 where
   pub ours : outcome s ≡ accepted c
   pub theirs : outcome t ≡ accepted d
   pub alike : AlikeFiles (inventoryAt s c) (inventoryAt t d)
-
-abbrev chains : List ℕ → List ℕ → List ℕ → Chains
-chains gs ss ls = record { groups = gs; stores = ss; locomotives = ls }
 
 abbrev fan : ℕ → List ℕ
 fan next = store next 5 2 (air 500 2000 9500 1000)

@@ -1,5 +1,6 @@
 -- What was asked of a group, and what it gave, before warm-ups were timed: question 9 over 36..63, and the minutes of the table or the heated stand's 1.5. A file with
--- byte 36 zero in every group is answered so (`proofs/Untimed.as-untimed`): 02, U2, "Old files read as before".
+-- byte 36 zero in every group is answered so (`proofs/Untimed.as-untimed`), and so is every file that was accepted then (`accepted-as-untimed`): 02, U2, "Old files
+-- read as before".
 use Prim.Native.Nat.{ℕ}
 use mathlib.Core.Path.{_≡_}
 use mathlib.Core.Bool.{Bool, true}
@@ -22,9 +23,9 @@ use Rattle.slot_file.specs.Questions.{mostSlots, Question, Outcome, acce
 use Rattle.slot_file.specs.Walk.{first, chain, storeWalk}
 use Rattle.slot_file.specs.Figures.{storeContributions, locomotiveContributions, gathered, summedFrom, refusal}
 
--- "with byte 36 zero in every group"
+-- every slot from 1 up that is a group has zero at byte 36, "0 for untimed"
 abbrev pub NoneTimed : List ℕ → Type 0
-NoneTimed s = (k : ℕ) → groupKind (slotOf s k) ≡ true → byteAt (slotOf s k) 36 ≡ 0
+NoneTimed s = (k : ℕ) → (k ≡ 0 → ⊥) → groupKind (slotOf s k) ≡ true → byteAt (slotOf s k) 36 ≡ 0
 
 -- question 9 of a group, as 01 asks it
 abbrev pub untimedGood : List ℕ → Group → Bool

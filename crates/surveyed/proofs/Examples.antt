@@ -22,13 +22,14 @@ use Rattle.slot_file.specs.Sources.{coefficientSlot, groupAt, storeAt, locomoti
 use Rattle.slot_file.specs.Questions.{headAsks, member, linkAsks, coefficientHolder, coefficientAsks, rowsAsks, closingAsks, coefficientSlots, reachedBy, groupAsks, storeAsks, locomotiveAsks, reachAsks, lastAsks}
 use Rattle.slot_file.specs.Walk.{first, chain, locomotiveWalk, storeWalk, groupWalk, outcome}
 use Rattle.slot_file.specs.Figures.{groupContributions, storeContributions, locomotiveContributions, gathered, contributions, exactSum, annualFigure, peakFigure, summed, answered, answer}
+use Rattle.slot_file.specs.Untimed.{untimedAsks, untimedOutcome, untimedContributions}
 use Rattle.slot_file.specs.Listing.{listed, text, digits, padded, fixed, line, lines, listing, refusalLine, printed}
-use Rattle.slot_file.specs.Surveyed.{Right, yards, records, bands, surveyed, locomotives, timedStands, refusals, fileOfB, LentOfB, answerOfB}
+use Rattle.slot_file.specs.Surveyed.{Right, yards, records, bands, surveyed, locomotives, timedStands, StandsBefore, refusals, fileOfB, LentOfB, answerOfB}
 use Rattle.slot_file.proofs.Examples.{as-examples}
 
-computed : Right surveyed × Right locomotives × Right timedStands × Right refusals × (answer fileOfB ≡ answerOfB)
-unfolding yards records bands locomotives timedStands refusals answerOfB flatMap if_then_else allTo listTo totalTo nearest upTo temperaturesInRange distancesInRange daysInRange groupInRange coefficientsInRange allZero below place standardFactors partsOf timesOf untimedIn tenthsIn minutesAt periodAt percentOf runAndIdle outGrams inGrams monthGrams annualTonnes peakGrams lowerOf lowestTo pollutantCode zeroWhereDue bulkInRange handlingInRange standingInRange aspirationInRange k6Of handlingPeak standingPeak bulkTonnes aspirationPeak aspirationTonnes sharesInRange locomotiveInRange sumTo sharesAddUp ageFactor modeTonnes locomotiveTonnes greatestHourly locomotivePeak bytesFrom slotOf i16At zeroFrom numberOf temperaturesOf headerOf daysOf distancesAt groupOf groupGood groupRead coefficientsOf coefficientsGood coefficientsRead bulkOf handlingOf handlingGood standingOf standingGood aspirationOf aspirationGood storeKind byKind storeOf storeGood readBy readStore sharesOf locomotiveOf locomotiveGood locomotiveRead coefficientSlot groupAt storeAt locomotiveAt temperaturesAt inventoryAt headAsks member linkAsks coefficientHolder coefficientAsks rowsAsks closingAsks coefficientSlots reachedBy groupAsks storeAsks locomotiveAsks reachAsks lastAsks first chain locomotiveWalk storeWalk groupWalk outcome groupContributions storeContributions locomotiveContributions gathered contributions exactSum annualFigure peakFigure summed answered answer text digits padded fixed line lines listing listed refusalLine printed
-computed = (refl, refl, refl, refl, refl)
+computed : Right surveyed × Right locomotives × Right timedStands × Right refusals × (answer fileOfB ≡ answerOfB) × StandsBefore
+unfolding yards records bands locomotives timedStands refusals answerOfB flatMap if_then_else allTo listTo totalTo nearest upTo temperaturesInRange distancesInRange daysInRange groupInRange coefficientsInRange allZero below place standardFactors partsOf timesOf untimedIn tenthsIn minutesAt periodAt percentOf runAndIdle outGrams inGrams monthGrams annualTonnes peakGrams lowerOf lowestTo pollutantCode zeroWhereDue bulkInRange handlingInRange standingInRange aspirationInRange k6Of handlingPeak standingPeak bulkTonnes aspirationPeak aspirationTonnes sharesInRange locomotiveInRange sumTo sharesAddUp ageFactor modeTonnes locomotiveTonnes greatestHourly locomotivePeak bytesFrom slotOf i16At zeroFrom numberOf temperaturesOf headerOf daysOf distancesAt groupOf groupGood groupRead coefficientsOf coefficientsGood coefficientsRead bulkOf handlingOf handlingGood standingOf standingGood aspirationOf aspirationGood storeKind byKind storeOf storeGood readBy readStore sharesOf locomotiveOf locomotiveGood locomotiveRead coefficientSlot groupAt storeAt locomotiveAt temperaturesAt inventoryAt headAsks member linkAsks coefficientHolder coefficientAsks rowsAsks closingAsks coefficientSlots reachedBy groupAsks storeAsks locomotiveAsks reachAsks lastAsks first chain locomotiveWalk storeWalk groupWalk outcome untimedAsks untimedOutcome untimedContributions groupContributions storeContributions locomotiveContributions gathered contributions exactSum annualFigure peakFigure summed answered answer text digits padded fixed line lines listing listed refusalLine printed
+computed = (refl, refl, refl, refl, refl, record { timed = refl; accepted-then = refl; gave = refl })
 
 pub as-surveyed : Right surveyed
 as-surveyed = computed .0
@@ -38,6 +39,9 @@ as-by-hand = computed .1
 
 pub as-timed : Right timedStands
 as-timed = computed .2
+
+pub stands-before : StandsBefore
+stands-before = computed .5
 
 pub as-refused : Right refusals
 as-refused = computed .3

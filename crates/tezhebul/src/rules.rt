@@ -1,19 +1,20 @@
 // The source rules, asked with values and without a slot file.
 ghost use mathlib.Core.Path.{_≡_};
+ghost use Prim.Native.Nat.{_*_};
+ghost use lib.ListN.{length};
+ghost use Rattle.vehicle_fields.specs.Fields.{pollutantCount};
 ghost use Rattle.stores.specs.Rules.{handlingAnswer, standingAnswer, aspirationAnswer};
 ghost use Rattle.vehicles.specs.Rules.{groupAnswer};
 ghost use Rattle.locomotives.specs.Rules.{locomotiveAnswer};
 ghost use Rattle.answer_numbers.specs.Numbers.{storeNumbers, storeSize, locomotiveNumbers, locomotiveSize, Given};
-ghost use Rattle.tezhebul.specs.Fields.{handlingOf, standingOf, aspirationOf, groupOf, flagged, locomotiveOf};
+ghost use Rattle.tezhebul.specs.Fields.{handlingOf, standingOf, aspirationOf, groupOf, rowSize, rowsOf, flagged, locomotiveOf};
 ghost use Rattle.tezhebul.specs.Memory.{GroupGiven};
 use super::fields;
 use locomotive_fields::Locomotive;
 use store_records::Aspiration;
 use store_records::Handling;
 use store_records::Standing;
-use vehicle_fields::Coefficients;
 use vehicle_fields::Group;
-use vehicle_fields::POLLUTANTS;
 use vehicles::GroupAnswer;
 
 // The numbers of what a handling record gives at the start of `out`; false, and nothing written, where it has room for fewer.
@@ -100,9 +101,12 @@ pub extern "C" fn tezhebul_aspiration(
     )
 }
 
-fn group_answer(flags: u8, g: Group, ts: [i16; 12], ks: [Coefficients; POLLUTANTS]) -> GroupAnswer
-    ensures { λ r. ⌜ r ≡ flagged flags (groupAnswer g ts ks) ⌝ }
+fn group_answer(flags: u8, g: Group, temperatures: &[i16], coefficients: &[u32]) -> GroupAnswer
+    requires { ⌜ (length (now temperatures) ≡ 12) × (length (now coefficients) ≡ rowSize * pollutantCount) ⌝ }
+    ensures { λ r. ⌜ r ≡ flagged flags (groupAnswer g (now (temperatures .entry)) (rowsOf (now (coefficients .entry)))) ⌝ }
 {
+    let ts = fields::temperatures_of(temperatures);
+    let ks = fields::rows_of(coefficients);
     if flags <= 3 {
         vehicles::group_emissions(g, ts, ks)
     } else {
@@ -146,9 +150,7 @@ pub extern "C" fn tezhebul_group(
             distances,
             days,
         );
-        let ts = fields::temperatures_of(temperatures);
-        let ks = fields::rows_of(coefficients);
-        answer_numbers::give_group(group_answer(flags, g, ts, ks), out)
+        answer_numbers::give_group(group_answer(flags, g, temperatures, coefficients), out)
     } else {
         false
     }

@@ -30,8 +30,7 @@ use Rattle.warmups.proofs.Conditions.{times-in-range, conditions-in-range}
 use Rattle.vehicles.specs.Rules.{percentOf, contributionBy, contributionOf, emissionOf, emissionCount, emissionsOf, groupAnswer}
 use Rattle.vehicles.specs.Parts.{activityOf, ActivityInRange, NeutraliserInRange, massParts, outParts, yearParts}
 use Rattle.vehicles.specs.declared.activity.Activity.{Activity}
-use Rattle.vehicles.proofs.Ranges.{ranged, twice, warmup, run, idle, of-six, source-in-range, in-range-is}
-use Rattle.vehicles.proofs.Scales.{control-most}
+use Rattle.vehicles.proofs.Ranges.{ranged, twice, warmup, run, idle, of-six, source-in-range, in-range-is, control-most}
 use Rattle.vehicles.proofs.Periods.{warmup-parts, run-parts, idle-parts, activity-in-range}
 use Rattle.vehicles.proofs.Paper.{counted}
 

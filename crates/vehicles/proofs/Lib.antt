@@ -1,6 +1,5 @@
 -- The laws that belong to no one function.
 pub mod Ranges
-pub mod Scales
 pub mod Periods
 pub mod Paper
 pub mod Bounds

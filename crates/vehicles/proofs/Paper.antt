@@ -78,6 +78,10 @@ module _ (times : List ℕ) (g : Group) (bs : List ℕ) (k : Coefficients) (c : 
       (by-days 12)
 
 module _ (f : Factors) (g : Group) (k : Coefficients) (y : Frac) (c : ℕ) (same : y ≈ (c over 100)) where
+  -- at a temperature
+  abbrev conditions : ℤ → Conditions
+  conditions t = conditionsIn (timesOf f (g .category)) g (warmupBand t)
+
   running : (g .neutraliser .running over 100) ≈ (g .neutraliser .running over 100)
   running = ≈-refl (g .neutraliser .running) 100 (lit< tt)
 
@@ -90,7 +94,7 @@ module _ (f : Factors) (g : Group) (k : Coefficients) (y : Frac) (c : ℕ) (same
       (≈-over (2 * (k .idle .0 * g .idle .0) * c * g .neutraliser .running) 2000000000 (lit< tt) (omega arith)
       (≈-⊙ (≈-⊙ (≈-⊙ (≈-refl (k .idle .0) 10000 (lit< tt)) (≈-refl (g .idle .0) 10 (lit< tt))) same) running))
 
-  out : (t : ℤ) → outGrams g k y (periodAt g t) (minutesAt f g t) ≈ (outParts g k c (conditionsIn (timesOf f (g .category)) g (warmupBand t)) over 2000000000)
+  out : (t : ℤ) → outGrams g k y (periodAt g t) (minutesAt f g t) ≈ (outParts g k c (conditions t) over 2000000000)
   unfolding outGrams outParts massParts conditionsIn minutesAt
   out t =
       let b = warmupBand t in
@@ -102,15 +106,15 @@ module _ (f : Factors) (g : Group) (k : Coefficients) (y : Frac) (c : ℕ) (same
       (≈-⊙ (≈-⊙ (≈-⊙ (≈-refl w 10000 (lit< tt)) (≈-refl m 10 (lit< tt))) same) (≈-refl (g .neutraliser .warming) 100 (lit< tt))))
       (run-and-idle (periodIn g b) (g .outward)))
 
-  back : (t : ℤ) → inGrams g k y (periodAt g t) ≈ (inParts g k c (conditionsIn (timesOf f (g .category)) g (warmupBand t)) over 2000000000)
+  back : (t : ℤ) → inGrams g k y (periodAt g t) ≈ (inParts g k c (conditions t) over 2000000000)
   unfolding inGrams conditionsIn
   back t = rw (period-same g t) (run-and-idle (periodIn g (warmupBand t)) (g .inward))
 
   month : (t : ℤ) (days : ℕ) →
-      monthGrams g k y (periodAt g t) (minutesAt f g t) days ≈ ((daysParts g k c (conditionsIn (timesOf f (g .category)) g (warmupBand t)) days * (g .share * g .vehicles)) over 200000000000)
+      monthGrams g k y (periodAt g t) (minutesAt f g t) days ≈ ((daysParts g k c (conditions t) days * (g .share * g .vehicles)) over 200000000000)
   unfolding monthGrams
   month t days =
-      ≈-over (daysParts g k c (conditionsIn (timesOf f (g .category)) g (warmupBand t)) days * (g .share * g .vehicles)) 200000000000 (lit< tt) (omega arith)
+      ≈-over (daysParts g k c (conditions t) days * (g .share * g .vehicles)) 200000000000 (lit< tt) (omega arith)
       (≈-⊙
       (≈-⊙ (≈-⊙ (≈-⊞ (out t) (back t)) (≈-refl (g .share) 100 (lit< tt))) (≈-refl (g .vehicles) 1 (lit< tt)))
       (≈-refl days 1 (lit< tt)))
@@ -127,10 +131,10 @@ module _ (f : Factors) (g : Group) (k : Coefficients) (y : Frac) (c : ℕ) (same
       (λ (m : ℕ). monthParts times g b k c m * (g .share * g .vehicles)) 200000000000 (lit< tt) 12
       (λ (m : ℕ) (p : m < 12). rw (band-at ts m p) (month (getD ts m (pos 0)) (getD (g .days) m 0))))))
 
-  peak : (t : ℤ) → peakGrams (minutesAt f g) g k y t ≈ ((outParts g k c (conditionsIn (timesOf f (g .category)) g (warmupBand t)) * g .leaving * peakUnits) over gramParts)
+  peak : (t : ℤ) → peakGrams (minutesAt f g) g k y t ≈ ((outParts g k c (conditions t) * g .leaving * peakUnits) over gramParts)
   unfolding peakGrams
   peak t =
-      ≈-over (outParts g k c (conditionsIn (timesOf f (g .category)) g (warmupBand t)) * g .leaving * peakUnits) gramParts (lit< tt) (omega arith)
+      ≈-over (outParts g k c (conditions t) * g .leaving * peakUnits) gramParts (lit< tt) (omega arith)
       (≈-per 3600 (lit< tt) (≈-⊙ (out t) (≈-refl (g .leaving) 1 (lit< tt))))
 
 -- a pollutant's tonnes and rate, in exact units
@@ -145,16 +149,17 @@ module _ (f : Factors) (g : Group) (ts : List ℤ) (k : Coefficients) (p : ℕ) 
       record { annual = year f g k (controlOf f g p) c same ts; peak = peak f g k (controlOf f g p) c same (lowestOf ts) }
 
   -- its sums are what the rule gives
-  pub emission : emissionParts f g k p (activityOf (timesOf f (g .category)) g (climateOf ts .bands)) (conditionsIn (timesOf f (g .category)) g (climateOf ts .coldest)) ≡ emitted (contributionBy f g ts k p)
+  emission : emissionParts f g k p (activityOf (timesOf f (g .category)) g (climateOf ts .bands)) (conditionsIn (timesOf f (g .category)) g (climateOf ts .coldest)) ≡ emitted (contributionBy f g ts k p)
   unfolding emissionParts
   emission = let e = counted in rw (parts (e .annual), parts (e .peak))
 
+-- of each pollutant
+emissions : (f : Factors) (g : Group) (ts : List ℤ) (ks : List Coefficients)
+    → emissionsIn f g (climateOf ts) ks ≡ listTo emissionCount (λ (p : ℕ). emitted (contributionBy f g ts (getD ks p noCoefficients) p))
+unfolding emissionsIn
+emissions f g ts ks = listTo-same emissionCount _ _ (λ (p : ℕ) (l : p < emissionCount). emission f g ts (getD ks p noCoefficients) p)
+
 -- THE ANSWER in the climate that temperatures decide is the rule's at these temperatures
 pub answered : (g : Group) (ts : List ℤ) (ks : List Coefficients) → temperaturesInRange ts ≡ true → answerIn g (climateOf ts) ks ≡ groupAnswer g ts ks
-unfolding answerIn groupAnswer emissionsIn emissionsOf emissionOf
-answered g ts ks h =
-    let c = climateOf ts in
-    let times = timesOf standardFactors (g .category) in
-    let e = listTo-same emissionCount (λ (p : ℕ). emissionParts standardFactors g (getD ks p noCoefficients) p (activityOf times g (c .bands)) (conditionsIn times g (c .coldest)))
-    (λ (p : ℕ). emitted (contributionOf g ts (getD ks p noCoefficients) p)) (λ (p : ℕ) (l : p < emissionCount). emission standardFactors g ts (getD ks p noCoefficients) p) in
-    rw (in-range-is g ts ks, h, e)
+unfolding answerIn groupAnswer emissionsOf emissionOf
+answered g ts ks h = rw (in-range-is g ts ks, h, emissions standardFactors g ts ks)

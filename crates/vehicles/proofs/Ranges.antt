@@ -1,4 +1,4 @@
--- What the range tests of a group and of coefficients say: the bound of each field, read off its test. Assumes nothing.
+-- What the range tests of a group, of coefficients and of factors say: the bound of each field, read off its test. Assumes nothing.
 use Prim.Native.Nat.{ℕ, zero, suc, _<_, _≤_}
 use native.Mathlib.Nat.{le-trans}
 use native.Mathlib.Omega.{arith}
@@ -6,15 +6,19 @@ use mathlib.Core.Path.{_≡_, refl}
 use mathlib.Core.Bool.{Bool, true, false, _&&_}
 use mathlib.Core.List.{List, [], _∷_}
 use borrow.Author.Tests.{leb-true}
-use lib.Dec.{leb}
+use lib.Dec.{leb, eqb}
 use lib.IntN.{ℤ}
 use lib.ListN.{getD}
 use Rattle.sums.specs.Choice.{allOf}
-use Rattle.sums.proofs.Choices.{left, right, nth, each, allTo-at}
+use Rattle.sums.proofs.Choices.{both, left, right, nth, each, allTo-at}
 use Rattle.vehicle_fields.specs.Fields.{pollutantCount, distancesInRange, daysInRange, monthLengths, temperaturesInRange, groupInRange, groupTests, coefficientsInRange, seven, noMinute, noKilometre, allInRange, noCoefficients, sourceInRange, inRange}
 use Rattle.vehicle_fields.specs.declared.group.Distances.{Distances}
 use Rattle.vehicle_fields.specs.declared.group.Group.{Group}
 use Rattle.vehicle_fields.specs.declared.group.Coefficients.{Coefficients}
+use Rattle.vehicle_factors.specs.Factors.{factorsInRange}
+use Rattle.vehicle_factors.specs.declared.Factors.{Factors}
+use Rattle.vehicle_factors.proofs.Ranges.{ranged-factors}
+use Rattle.vehicles.specs.Rules.{percentOf}
 use Rattle.vehicles.specs.Parts.{distanceSum, NeutraliserInRange}
 
 pub record RangedDistances (d : Distances) : Type 0 where
@@ -105,3 +109,13 @@ in-range-is g ts ks = go (groupInRange g) (temperaturesInRange ts)
     go true false = refl
     go false true = refl
     go false false = refl
+
+-- a control factor is at most 100 percent
+abbrev Percent : ℕ → Type 0
+Percent n = n ≤ 100
+
+pub control-most : (f : Factors) → factorsInRange f ≡ true → (g : Group) (p : ℕ) → percentOf f g p ≤ 100
+unfolding percentOf
+control-most f h g p =
+    let r = ranged-factors f h in
+    both Percent (g .controlled) (both Percent (eqb (g .fuel) 1) (r .petrol p) (r .diesel p)) (omega arith)

@@ -1,4 +1,4 @@
--- A band decides the period that the temperature has, and what a band decides is in range whatever the group. Assumes nothing.
+-- A band decides the period that the temperature has; the minutes of an untimed and of a timed group; and what a band decides is in range. Assumes nothing.
 use Prim.Native.Nat.{ℕ, suc, _<_, _≤_}
 use native.Mathlib.Omega.{arith}
 use mathlib.Core.Path.{_≡_, refl, ap}
@@ -36,6 +36,15 @@ pub period-same : (g : Group) (t : ℤ) → periodAt g t ≡ periodIn g (warmupB
 unfolding periodAt periodIn
 period-same g t = ap (if_then_else (g .heated) 0) (of-band t)
 
+-- THE MINUTES of an untimed group are those of the table, or the heated stand's 1.5; those of a timed one are its own, at every temperature
+pub untimed : (f : Factors) (g : Group) → g .timed .0 ≡ 0 → (t : ℤ) → minutesAt f g t ≡ untimedAt f g t
+unfolding minutesAt tenthsIn if_then_else
+untimed f g e t = rw e
+
+pub timed : (f : Factors) (g : Group) → (g .timed .0 ≡ 0 → ⊥) → (t : ℤ) → minutesAt f g t ≡ (g .timed .0 over 10)
+unfolding minutesAt tenthsIn if_then_else
+timed f g e t = rw (ne-eqb (g .timed .0) 0 e)
+
 -- the band of a month
 pub band-at : (ts : List ℤ) (m : ℕ) → m < 12 → getD (climateOf ts .bands) m 0 ≡ warmupBand (getD ts m (pos 0))
 unfolding climateOf
@@ -66,12 +75,3 @@ module _ (times : List ℕ) (h : TimesInRange times) (g : Group) (t : g .timed .
   pub conditions-in-range : ConditionsInRange (conditionsIn times g band)
   unfolding conditionsIn
   conditions-in-range = record { period = period-below g band; minutes = tenths-most }
-
--- THE MINUTES of an untimed group are those of the table, or the heated stand's 1.5; those of a timed one are its own, at every temperature
-pub untimed : (f : Factors) (g : Group) → g .timed .0 ≡ 0 → (t : ℤ) → minutesAt f g t ≡ untimedAt f g t
-unfolding minutesAt tenthsIn if_then_else
-untimed f g e t = rw e
-
-pub timed : (f : Factors) (g : Group) → (g .timed .0 ≡ 0 → ⊥) → (t : ℤ) → minutesAt f g t ≡ (g .timed .0 over 10)
-unfolding minutesAt tenthsIn if_then_else
-timed f g e t = rw (ne-eqb (g .timed .0) 0 e)

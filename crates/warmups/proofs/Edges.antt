@@ -1,6 +1,6 @@
 -- A place among edges, from the tests of the code on an i16. The code tests from the coldest edge up and the definition from the warmest down, so each
 -- comparison that the definition makes follows from one that the code made with an edge on the same side. Assumes nothing.
-use Prim.Native.Nat.{ℕ, zero, suc, pred, _<_, _≤_, zero-le, suc-le-suc}
+use Prim.Native.Nat.{ℕ, zero, suc, pred, _<_, _≤_}
 use native.Mathlib.Nat.{not-suc-le-zero}
 use native.Mathlib.Omega.{arith}
 use native.Mathlib.Decide.{decLt}
@@ -10,13 +10,11 @@ use mathlib.Core.List.{List, [], _∷_}
 use borrow.Author.Tests.{le-leb, lt-leb}
 use lib.Dec.{T, leb, lit<, leb·suc-suc}
 use lib.IntN.{ℤ, pos, negsuc}
-use lib.ListN.{length}
 use lib.Signed.{ltZ, leZ, ltZ-yes, leZ-yes, ltZ-no, <ℤ-≤ℤ-trans, clashℤ}
 use mir.Syntax.{w16}
 use mir.Val.{SFits, toZ, ofZ}
 use mir.Facts.{toZ-ofZ}
 use Rattle.sums.specs.Choice.{if_then_else}
-use Rattle.sums.proofs.Choices.{both}
 use Rattle.warmups.specs.Temperatures.{below, place}
 
 -- a local holds t's bits, and a test reads t back from them
@@ -74,13 +72,3 @@ cooler t b zero es h l f p q = absurd (not-suc-le-zero p)
 cooler t b (suc r) es h l f p q = simp (above 50 t, under t b (pos 51) (simp (toZ-ofZ f) at h) l) (ap suc q)
 
 pub ruleset edges = (lit<, warm, cooler, here, past, end, refl)
-
--- a place is no higher than there are edges
-below-most : (es : List ℤ) (t : ℤ) → below es t ≤ length es
-unfolding below
-below-most [] t = zero-le
-below-most (e ∷ es) t = both (λ (n : ℕ). n ≤ suc (length es)) (ltZ t e) (suc-le-suc (below-most es t)) zero-le
-
-pub place-most : (es : List ℤ) (t : ℤ) → place es t ≤ suc (length es)
-unfolding place
-place-most es t = both (λ (n : ℕ). n ≤ suc (length es)) (ltZ (pos 50) t) zero-le (suc-le-suc (below-most es t))

@@ -3,7 +3,8 @@ ghost use mathlib.Core.Path.{_≡_};
 ghost use Rattle.warmups.specs.Parts.{climateOf};
 use super::temperature;
 
-// The band of each month, and that of the lowest temperature.
+// The band of each month, and that of the lowest temperature, as `climate_of` makes them. A band past the last has no minutes: a rule that is asked by temperatures
+// tests those, and never meets one.
 pub struct Climate {
     pub bands: [u8; 12],
     pub coldest: u8,

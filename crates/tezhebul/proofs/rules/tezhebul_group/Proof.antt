@@ -23,19 +23,16 @@ right d ds ts ks h =
 group-of-requires : tie.Need-group-of-requires
 group-of-requires c κs = let l = right _ _ _ _ (sym (c .before .right-lengths .ensures) ∙ c .if1 .taken) in (l .0, l .1)
 
-temperatures-of-requires : tie.Need-temperatures-of-requires
-temperatures-of-requires c κs = right _ _ _ _ (sym (c .before .before .right-lengths .ensures) ∙ c .before .if1 .taken) .2
-
-rows-of-requires : tie.Need-rows-of-requires
-rows-of-requires c κs = right _ _ _ _ (sym (c .before .before .before .right-lengths .ensures) ∙ c .before .before .if1 .taken) .3
+group-answer-requires : tie.Need-group-answer-requires
+group-answer-requires c κs = let l = right _ _ _ _ (sym (c .before .before .right-lengths .ensures) ∙ c .before .if1 .taken) in (l .2, l .3)
 
 returns : tie.Need-returns
 unfolding if_then_else
 returns c =
     let a = c .before .before .before .before in
-    let b = a .before .before .before .before in
+    let b = a .before .before in
     rw (← b .before .right-lengths .ensures, b .if1 .taken)
-    (rw (a .group-answer .ensures, a .before .rows-of .ensures, a .before .before .temperatures-of .ensures, a .before .before .before .group-of .ensures) at (c .before .before .give-group .ensures))
+    (rw (a .group-answer .ensures, a .before .group-of .ensures) at (c .before .before .give-group .ensures))
 
 returns-2 : tie.Need-returns-2
 unfolding if_then_else
@@ -44,4 +41,4 @@ returns-2 c = rw (← c .before .right-lengths .ensures, c .if1 .left) (refl, re
 pub tezhebul-group-spec : {M : Type 1} → statement M
 tezhebul-group-spec =
     tie.close
-    (tie.spec (omega arith) group-of-requires temperatures-of-requires rows-of-requires (omega arith) (omega arith) (omega arith) returns returns-2)
+    (tie.spec (omega arith) group-of-requires group-answer-requires (omega arith) (omega arith) returns returns-2)

@@ -3,7 +3,7 @@ use native.Mathlib.Omega.{arith}
 use Prim.Native.Nat.{_≤_}
 use Rattle.vehicles.specs.Rules.{percentOf}
 use Rattle.vehicles.specs.Parts.{emissionParts}
-use Rattle.vehicles.proofs.Scales.{control-most}
+use Rattle.vehicles.proofs.Ranges.{control-most}
 use Rattle.vehicles.proofs.Bounds.{out-most, year-most}
 use Rattle.vehicles.proofs.rule.emission_of.Statement.{statement}
 use Rattle.vehicles.proofs.rule.emission_of.Tie as tie
