@@ -53,7 +53,7 @@ pub(crate) fn i16s_at(all: &[u8; ROOM], at: usize, to: &mut [i16])
 }
 
 // The function's number, how many numbers and bytes are lent, and the length of the arguments.
-#[derive(Drop)]
+#[derive(Clone, Copy)]
 pub(crate) struct Head {
     pub(crate) function: u8,
     pub(crate) numbers: usize,

@@ -106,7 +106,7 @@ fn least(a: u8, b: usize) -> usize
 }
 
 // A group's numbers, and how long each of its slices is.
-#[derive(Drop)]
+#[derive(Clone, Copy)]
 struct GroupNumbers {
     category: u8,
     fuel: u8,

@@ -7,7 +7,7 @@ use listing_lines::LISTING_ROOM;
 use slot_file::Answer;
 
 // What a listing into a lent buffer answers: the answer itself, or refusal 13, and how many bytes were written.
-#[derive(Drop)]
+#[derive(Clone, Copy)]
 pub struct Listing {
     pub answer: Answer,
     pub written: usize,

@@ -7,7 +7,7 @@ pub const MODES: usize = 5;
 
 // The model is the type by its number in table 21, a share is in thousandths of the time, hours are a year's, old is 1 over two years of age and else 0,
 // the zone is 1 south of 44 degrees, 3 north of 60 degrees and else 2.
-#[derive(Drop)]
+#[derive(Clone, Copy)]
 pub struct Locomotive {
     pub model: u8,
     pub shares: [u16; MODES],

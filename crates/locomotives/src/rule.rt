@@ -14,21 +14,21 @@ pub const SUBSTANCES: usize = 3;
 
 const CODES: [u16; SUBSTANCES] = [337, 301, 328];
 
-#[derive(Drop)]
+#[derive(Clone, Copy)]
 pub struct LocomotiveAnswer {
     pub verdict: Verdict,
     pub emissions: [Emission; SUBSTANCES],
 }
 
 // Kilograms per hour of the modes: by their shares, in millionths, and the greatest of those with a share, in thousandths.
-#[derive(Drop)]
+#[derive(Clone, Copy)]
 pub(crate) struct Modes {
     pub(crate) mean: u64,
     pub(crate) greatest: u64,
 }
 
 // Of each substance.
-#[derive(Drop)]
+#[derive(Clone, Copy)]
 pub(crate) struct AllModes {
     pub(crate) co: Modes,
     pub(crate) no2: Modes,

@@ -36,7 +36,7 @@ use sums::Emission;
 use vehicles::EMISSIONS;
 
 // Whether a record was there, and the totals after it.
-#[derive(Drop)]
+#[derive(Clone, Copy)]
 struct Step {
     more: bool,
     totals: [Emission; EMISSIONS],

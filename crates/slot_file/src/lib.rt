@@ -10,7 +10,7 @@ pub use codes::{COUNT, code_at, place_of};
 pub const MOST_SLOTS: usize = 1_024;
 
 // How many groups, store records and locomotives were summed.
-#[derive(Drop)]
+#[derive(Clone, Copy)]
 pub struct Counts {
     pub groups: u16,
     pub stores: u16,
@@ -19,7 +19,7 @@ pub struct Counts {
 
 // The number of the question that was answered no and a slot, 0 and 0 where none was; the annual figures in millionths of a tonne and the peak figures in
 // ten-millionths of a gram per second, by code; and the counts.
-#[derive(Drop)]
+#[derive(Clone, Copy)]
 pub struct Answer {
     pub number: u8,
     pub slot: u16,

@@ -7,7 +7,7 @@ use super::{numbers, slot};
 use vehicle_fields::{Coefficients, PerKilometre, PerMinute};
 
 // 0, or the number of the first of questions 8 and 9 that is answered no; the pollutant; the fields; the next index.
-#[derive(Drop)]
+#[derive(Clone, Copy)]
 pub struct CoefficientsRead {
     pub number: u8,
     pub pollutant: u8,

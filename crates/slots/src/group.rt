@@ -7,7 +7,7 @@ use super::{numbers, slot};
 use vehicle_fields::{Distances, Group, Metres, Minutes, Neutraliser};
 
 // 0, or the number of the first of questions 8 and 9 that is answered no; the fields; the next index and the first coefficient slot.
-#[derive(Drop)]
+#[derive(Clone, Copy)]
 pub struct GroupRead {
     pub number: u8,
     pub group: Group,

@@ -6,7 +6,7 @@ ghost use Rattle.slots.specs.Layout.{temperatures_of, header_of};
 use super::{numbers, slot};
 
 // The first slot of each chain, or 0.
-#[derive(Drop)]
+#[derive(Clone, Copy)]
 pub struct Heads {
     pub groups: u16,
     pub stores: u16,
@@ -14,7 +14,7 @@ pub struct Heads {
 }
 
 // The format number, the count of slots, the chains' heads, the temperatures, and whether the other bytes are zero.
-#[derive(Drop)]
+#[derive(Clone, Copy)]
 pub struct Header {
     pub format: u16,
     pub count: u16,

@@ -7,7 +7,7 @@ use super::{numbers, slot};
 use locomotive_fields::{Locomotive, MODES};
 
 // 0, or the number of the first of questions 8 and 9 that is answered no; the fields; the next index.
-#[derive(Drop)]
+#[derive(Clone, Copy)]
 pub struct LocomotiveRead {
     pub number: u8,
     pub locomotive: Locomotive,

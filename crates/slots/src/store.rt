@@ -7,7 +7,7 @@ ghost use Rattle.slots.specs.declared.store.StoreRecord.TheVariants as variants;
 use super::{numbers, slot};
 use store_records::{Aspiration, Bulk, Handling, Standing};
 
-#[derive(Drop)]
+#[derive(Clone, Copy)]
 pub enum StoreRecord {
     Handling(Handling),
     Standing(Standing),
@@ -15,7 +15,7 @@ pub enum StoreRecord {
 }
 
 // A record, or the question that the slot is refused by: 8 and 9.
-#[derive(Drop)]
+#[derive(Clone, Copy)]
 pub enum StoreRead {
     Record(StoreRecord),
     WrongKind,

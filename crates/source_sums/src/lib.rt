@@ -11,7 +11,7 @@ use vehicle_fields::{Coefficients, Group, POLLUTANTS};
 use warmups::Climate;
 
 // A group with its own coefficients, the `VehicleGroup` of the definitions. One value, so that a walk which only checks copies neither.
-#[derive(Drop)]
+#[derive(Clone, Copy)]
 pub struct GroupSource {
     pub group: Group,
     pub coefficients: [Coefficients; POLLUTANTS],

@@ -1,4 +1,6 @@
 // The records of bulk stores: the fields of handling, standing and aspiration, and their ranges.
+#![tactic(auto)]
+
 pub mod records;
 
 pub use records::{

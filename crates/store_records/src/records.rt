@@ -4,7 +4,7 @@ ghost use Rattle.store_records.specs.Fields.{bulk_in_range, handling_in_range, s
 
 // What handling and standing records have in common. Wind is in tenths of a metre a second, moisture in tenths of a percent, grain in
 // millimetres; the amount is in kilograms per 20 minutes where the material is handled, in square metres where it stands.
-#[derive(Drop)]
+#[derive(Clone, Copy)]
 pub struct Bulk {
     pub dust: u8,
     pub store: u16,
@@ -16,21 +16,21 @@ pub struct Bulk {
     pub amount: u32,
 }
 
-#[derive(Drop)]
+#[derive(Clone, Copy)]
 pub struct Handling {
     pub bulk: Bulk,
     pub drop: u8,
 }
 
 // K6 is in hundredths, 0 where it is missing.
-#[derive(Drop)]
+#[derive(Clone, Copy)]
 pub struct Standing {
     pub bulk: Bulk,
     pub k6: u16,
 }
 
 // Concentration in milligrams per cubic metre, flow in litres a second, capture in hundredths of a percent, hours a year.
-#[derive(Drop)]
+#[derive(Clone, Copy)]
 pub struct Aspiration {
     pub dust: u8,
     pub store: u16,

@@ -9,7 +9,7 @@ use super::tables;
 use store_records::{Aspiration, Bulk, Handling, Standing};
 use sums::{AnnualSum, Emission, PeakSum, Verdict};
 
-#[derive(Drop)]
+#[derive(Clone, Copy)]
 pub struct StoreAnswer {
     pub verdict: Verdict,
     pub emission: Emission,

@@ -6,7 +6,7 @@ use super::mixed::Mixed;
 use super::words::Words;
 
 // So many exact units.
-#[derive(Drop)]
+#[derive(Clone, Copy)]
 pub struct AnnualSum(pub Words);
 
 impl AnnualSum {

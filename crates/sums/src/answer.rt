@@ -6,14 +6,14 @@ use super::annual::AnnualSum;
 use super::peak::PeakSum;
 
 // The number of the question that was answered no and a slot; 0 and 0 where none was.
-#[derive(Drop)]
+#[derive(Clone, Copy)]
 pub struct Verdict {
     pub number: u8,
     pub slot: u16,
 }
 
 // What a source gives to one substance, by its code: a year's mass and the peak rate.
-#[derive(Drop)]
+#[derive(Clone, Copy)]
 pub struct Emission {
     pub code: u16,
     pub annual: AnnualSum,

@@ -1,4 +1,6 @@
 // Exact sums of emissions, and what every source rule answers in.
+#![tactic(auto)]
+
 pub mod annual;
 pub mod answer;
 pub mod mixed;

@@ -4,7 +4,7 @@ ghost use Rattle.sums.specs.Arithmetic.{Denominator, step_of};
 ghost use Rattle.sums.specs.Figures.{mixed_of};
 
 // Whole units, and the part of one that is left, in exact units.
-#[derive(Drop)]
+#[derive(Clone, Copy)]
 pub struct Mixed {
     pub whole: u64,
     pub part: u64,

@@ -9,7 +9,7 @@ use super::mixed::Mixed;
 use std::num::wrapping_add_u64;
 
 // A whole number of exact units.
-#[derive(Drop)]
+#[derive(Clone, Copy)]
 pub struct Words {
     pub high: u64,
     pub low: u64,

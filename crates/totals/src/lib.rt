@@ -22,7 +22,7 @@ const COLUMNS: usize = 2;
 const NUMBERS: usize = 2 * COLUMNS * COUNT;
 
 // Millionths of a tonne, and ten-millionths of a gram per second.
-#[derive(Drop)]
+#[derive(Clone, Copy)]
 pub struct Figures {
     pub annual: [u64; COUNT],
     pub peak: [u64; COUNT],

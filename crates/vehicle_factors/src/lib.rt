@@ -8,7 +8,7 @@ use vehicle_fields::POLLUTANTS;
 pub const BANDS: usize = 7;
 
 // Control factors in percent, by pollutant, of each fuel; warm-up times in tenths of a minute, by band from the warmest on, of each category.
-#[derive(Drop)]
+#[derive(Clone, Copy)]
 pub struct Factors {
     pub petrol: [u8; POLLUTANTS],
     pub diesel: [u8; POLLUTANTS],

@@ -9,14 +9,14 @@ use super::units::{Metres, Minutes, PerKilometre, PerMinute};
 pub const POLLUTANTS: usize = 6;
 
 // From the nearest and from the farthest place of the yard.
-#[derive(Drop)]
+#[derive(Clone, Copy)]
 pub struct Distances {
     pub nearest: Metres,
     pub farthest: Metres,
 }
 
 // The neutraliser's factors in percent: for run and idle, and for warm-up.
-#[derive(Drop)]
+#[derive(Clone, Copy)]
 pub struct Neutraliser {
     pub running: u8,
     pub warming: u8,
@@ -24,7 +24,7 @@ pub struct Neutraliser {
 
 // Category: 1 car, 2 truck, 3 bus. Fuel: 1 petrol, 2 diesel. `controlled`: emission control is done. `heated`: a heated stand. `leaving`: the most
 // vehicles that leave in one hour. `share`: the percent that leave in a day. `days`: worked in each month. `timed`: the warm-up as it was timed, or 0.
-#[derive(Drop)]
+#[derive(Clone, Copy)]
 pub struct Group {
     pub category: u8,
     pub fuel: u8,
@@ -42,7 +42,7 @@ pub struct Group {
 }
 
 // One pollutant's: warm-up and run in the warm, transitional and cold period, and idle.
-#[derive(Drop)]
+#[derive(Clone, Copy)]
 pub struct Coefficients {
     pub warmup: [PerMinute; 3],
     pub run: [PerKilometre; 3],

@@ -1,4 +1,6 @@
 // The fields of vehicle groups: their types and units, their ranges, and the soot and lead that must be zero.
+#![tactic(auto)]
+
 pub mod group;
 pub mod input;
 pub mod temperature;

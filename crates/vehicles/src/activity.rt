@@ -10,7 +10,7 @@ use vehicle_fields::{Coefficients, Group, Metres, Minutes};
 
 // Warm-up and run in the warm, transitional and cold period, and idling: what a pollutant's coefficients are multiplied by. The metres are those of the
 // nearest and of the farthest place together, twice their mean.
-#[derive(Drop)]
+#[derive(Clone, Copy)]
 pub struct Activity {
     pub warmup: [Minutes; 3],
     pub run: [Metres; 3],

@@ -17,7 +17,7 @@ use warmups::{Climate, Conditions};
 // How many emissions a group's answer holds: one for each pollutant.
 pub const EMISSIONS: usize = POLLUTANTS;
 
-#[derive(Drop)]
+#[derive(Clone, Copy)]
 pub struct GroupAnswer {
     pub verdict: Verdict,
     pub emissions: [Emission; EMISSIONS],

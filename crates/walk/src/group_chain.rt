@@ -14,7 +14,7 @@ use sums::Verdict;
 use warmups::Climate;
 
 // What a link to a group was told, the group with its coefficients, and the next link.
-#[derive(Drop)]
+#[derive(Clone, Copy)]
 pub(crate) struct GroupStep {
     pub(crate) verdict: Verdict,
     pub(crate) source: GroupSource,

@@ -12,7 +12,7 @@ use slots::Header;
 use sums::Verdict;
 
 // What a link to a locomotive was told, the locomotive, and the next link.
-#[derive(Drop)]
+#[derive(Clone, Copy)]
 pub(crate) struct LocomotiveStep {
     pub(crate) verdict: Verdict,
     pub(crate) locomotive: Locomotive,

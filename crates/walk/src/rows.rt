@@ -14,7 +14,7 @@ use vehicle_fields::{Coefficients, POLLUTANTS, PerKilometre, PerMinute};
 const ROWS: u8 = POLLUTANTS as u8;
 
 // What the coefficient links were told, and the rows of coefficients.
-#[derive(Drop)]
+#[derive(Clone, Copy)]
 pub(crate) struct Rows {
     pub(crate) verdict: Verdict,
     pub(crate) coefficients: [Coefficients; POLLUTANTS],

@@ -12,7 +12,7 @@ use slots::{Header, StoreRead};
 use sums::Verdict;
 
 // What a link to a store record was told, the record, and the next link.
-#[derive(Drop)]
+#[derive(Clone, Copy)]
 pub(crate) struct StoreStep {
     pub(crate) verdict: Verdict,
     pub(crate) read: StoreRead,

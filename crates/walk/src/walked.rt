@@ -7,7 +7,7 @@ use slot_file::Counts;
 use sums::Verdict;
 
 // What the links were told, and how many groups, store records and locomotives were passed.
-#[derive(Drop)]
+#[derive(Clone, Copy)]
 pub(crate) struct Walked {
     pub(crate) verdict: Verdict,
     pub(crate) counts: Counts,

@@ -6,7 +6,7 @@ use super::temperature;
 
 // The band of each month, and that of the lowest temperature, as `climate_of` makes them. A band past the last has no minutes: a rule that is asked by temperatures
 // tests those, and never meets one.
-#[derive(Drop)]
+#[derive(Clone, Copy)]
 pub struct Climate {
     pub bands: [u8; 12],
     pub coldest: u8,

@@ -7,7 +7,7 @@ use vehicle_factors::{BANDS, Factors};
 use vehicle_fields::{Group, Minutes};
 
 // What a month's band decides: the period whose coefficients count, 0 warm, 1 transitional, 2 cold, and the warm-up minutes.
-#[derive(Drop)]
+#[derive(Clone, Copy)]
 pub struct Conditions {
     pub period: usize,
     pub minutes: Minutes,

@@ -1,0 +1,6 @@
+-- By `Words::of`.
+use Rattle.std.proofs.Common.{arith}
+use Rattle.sums.proofs.annual.AnnualSum.of.Goals as goal
+
+pub returns : goal.returns
+returns c = rw c.of.ensures

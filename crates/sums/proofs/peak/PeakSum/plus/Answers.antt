@@ -1,0 +1,6 @@
+-- By `Words::plus`.
+use Rattle.std.proofs.Common.{arith}
+use Rattle.sums.proofs.peak.PeakSum.plus.Goals as goal
+
+pub returns : goal.returns
+returns c = rw c.plus.ensures

@@ -1,0 +1,8 @@
+-- The tests, as they stand.
+use Rattle.std.proofs.Common.{refl}
+use Rattle.vehicle_fields.specs.Fields.{distances_in_range}
+use Rattle.vehicle_fields.proofs.group.distances_in_range.Goals as goal
+
+pub returns : goal.returns
+unfolding distances_in_range
+returns c = refl
