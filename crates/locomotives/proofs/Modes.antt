@@ -1,13 +1,6 @@
 -- One mode more: its rate by number is the table's and keeps to the bounds, with a share it adds to the mean and the greatest, and without one it adds nothing.
 -- Assumes nothing.
-use Prim.Native.Nat.{ℕ, ◌+◌, ◌*◌, ◌<◌, ◌≤◌}
-use native.Mathlib.Nat.{mul-zero, add-zero}
-use native.Mathlib.Numerals.{add-one}
-use native.Mathlib.Omega.{arith}
-use mathlib.Core.Path.{◌≡◌, ap, ◌∙◌}
-use mathlib.Core.Bool.{true}
-use borrow.Author.Tests.{ne_eqb}
-use lib.ListN.{get_or}
+use Rattle.std.proofs.Common.{ℕ, ◌+◌, ◌*◌, ◌<◌, ◌≤◌, mul-zero, add-zero, add-one, arith, ◌≡◌, ap, ◌∙◌, true, ne_eqb, get_or}
 use Rattle.sums.specs.Choice.{if_then_else, sum_to}
 use Rattle.sums.specs.Fraction.{whole, parts_of}
 use Rattle.sums.proofs.Choices.{list_to_at}

@@ -1,13 +1,7 @@
 -- That the whole numbers are the paper's fractions: each formula by a term that is written as the formula is. The modes have one factor, the hours by age and
 -- zone, which leaves their sum; the larger of two fractions over one denominator is that of their numbers of parts. Assumes nothing.
-use Prim.Native.Nat.{ℕ, zero, suc, ◌*◌, ◌<◌, ◌≤◌}
-use native.Mathlib.Nat.{mul-pos, mul-le-mul_right, mul-lt-mul_of_pos_right, le_of_mul-le-mul_right, lt_of_mul-lt-mul_right}
-use native.Mathlib.Omega.{arith}
-use mathlib.Core.Path.{◌≡◌, refl, ap}
-use mathlib.Core.Bool.{Bool, true, false}
-use lib.Dec.{leb, eqb, lit<}
-use lib.ListN.{get_or}
-use borrow.Author.Tests.{le-leb, lt-leb, leb-true, leb-false}
+use Rattle.std.proofs.Common.{ℕ, zero, suc, ◌*◌, ◌<◌, ◌≤◌, mul-pos, mul-le-mul_right, mul-lt-mul_of_pos_right, le_of_mul-le-mul_right, lt_of_mul-lt-mul_right, arith, ◌≡◌, refl, ap, Bool, true, false, leb, eqb, lit<, get_or, le-leb, leb-true, leb-false}
+use borrow.Author.Tests.{lt-leb}
 use Rattle.sums.specs.Choice.{if_then_else}
 use Rattle.sums.specs.Fraction.{Frac, ◌over◌, ◌≈◌}
 use Rattle.sums.specs.Exactness.{Counted}

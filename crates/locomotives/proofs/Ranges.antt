@@ -1,10 +1,5 @@
 -- What the range tests say: each bound is one of the tests. Assumes nothing.
-use Prim.Native.Nat.{ℕ, ◌<◌, ◌≤◌}
-use mathlib.Core.Path.{◌≡◌}
-use mathlib.Core.Bool.{true}
-use borrow.Author.Tests.{leb-true}
-use lib.Dec.{leb}
-use lib.ListN.{get_or}
+use Rattle.std.proofs.Common.{ℕ, ◌<◌, ◌≤◌, ◌≡◌, true, leb-true, leb, get_or}
 use Rattle.sums.proofs.Choices.{nth, all_to_at}
 use Rattle.locomotive_fields.specs.Fields.{mode_count, shares_in_range, locomotive_tests, locomotive_in_range}
 use Rattle.locomotive_fields.specs.declared.fields.Locomotive.{Locomotive}

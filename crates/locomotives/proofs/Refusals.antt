@@ -1,8 +1,6 @@
 -- A locomotive out of range is refused 9, one in range whose shares do not total 1,000 is refused 14, both with zero figures and slot 0: the two tests choose.
 -- Assumes nothing.
-use mathlib.Core.Path.{◌≡◌}
-use mathlib.Core.Bool.{true, false}
-use lib.ListN.{replicate}
+use Rattle.std.proofs.Common.{◌≡◌, true, false, replicate}
 use Rattle.sums.specs.Choice.{if_then_else}
 use Rattle.sums.specs.Answer.{no_emission}
 use Rattle.locomotive_fields.specs.Fields.{locomotive_in_range, shares_add_up}

@@ -1,8 +1,5 @@
 -- One computed test over each table: every entry is a whole number of parts of the code's denominator, and how many at most. Assumes nothing.
-use Prim.Native.Nat.{ℕ, ◌-◌}
-use mathlib.Core.Path.{refl}
-use mathlib.Core.List.{[], ◌∷◌}
-use lib.Dec.{eqb}
+use Rattle.std.proofs.Common.{ℕ, ◌-◌, refl, [], ◌∷◌, eqb}
 use Rattle.sums.specs.Fraction.{◌over◌, whole, parts_of}
 use Rattle.sums.proofs.Choices.{both}
 use Rattle.sums.proofs.Tables.{Scaled, all_scaled, entry}

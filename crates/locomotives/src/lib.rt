@@ -1,4 +1,6 @@
 // The source rule of shunting locomotives.
+#![tactic(auto)]
+
 pub mod rule;
 mod table;
 

@@ -1,12 +1,6 @@
 -- The number of a store record's read is that of questions 8 and 9, and its values are the record's where that is 0: by the kind, and whether its tests hold. Assumes
 -- nothing.
-use mathlib.Core.Path.{◌≡◌, refl, sym, ap, ◌∙◌}
-use mathlib.Core.Bool.{Bool, true, false, ◌&&◌, ◌||◌}
-use mathlib.Core.List.{List, []}
-use Prim.Native.Nat.{ℕ}
-use lib.Dec.{eqb}
-use lib.ListN.{get_or}
-use borrow.Author.Tests.{eqb-true}
+use Rattle.std.proofs.Common.{◌≡◌, refl, sym, ap, ◌∙◌, Bool, true, false, ◌&&◌, ◌||◌, List, [], ℕ, eqb, get_or, eqb-true}
 use Rattle.sums.specs.Choice.{if_then_else}
 use Rattle.slots.specs.Bytes.{byte_at, number_of}
 use Rattle.slots.specs.Layout.{handling_of, standing_of, aspiration_of, store_kind, by_kind, store_of, store_good, read_by, read_store, store_fields, read_number, read_values, StoreReads}

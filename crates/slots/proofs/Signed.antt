@@ -1,14 +1,6 @@
 -- Two's complement at 16 bits: the low half reads as itself, the high half as -1 less what is missing to 65535. Assumes nothing.
-use mathlib.Core.List.{List, ◌∷◌}
-use mathlib.Core.Path.{◌≡◌, refl, ◌∙◌}
-use Prim.Native.Nat.{ℕ, zero, suc, ◌-◌, ◌≤◌, ◌<◌}
-use native.Mathlib.Nat.{zero-add}
-use native.Mathlib.Omega.{arith}
-use borrow.Author.Tests.{lt-ltb, le-ltb}
-use lib.IntN.{ℤ, pos, negsuc, ◌-ℤ◌}
-use mir.Syntax.{w16}
-use mir.Val.{SFits, to_z, of_z}
-use mir.Facts.{to_z-of_z, to_z_pos}
+use Rattle.std.proofs.Common.{List, ◌∷◌, ◌≡◌, refl, ◌∙◌, ℕ, zero, suc, ◌-◌, ◌≤◌, ◌<◌, zero-add, arith, lt-ltb, le-ltb, ℤ, pos, negsuc, ◌-ℤ◌, w16, SFits, to_z, of_z, to_z-of_z}
+use mir.Facts.{to_z_pos}
 use Rattle.sums.proofs.Choices.{yes, no}
 use Rattle.slots.specs.Bytes.{signed}
 

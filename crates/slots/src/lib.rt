@@ -1,4 +1,6 @@
 // What the slots of a slot file hold: slot 0, groups, coefficients, store records and locomotives, read from 64 bytes each.
+#![tactic(auto)]
+
 pub mod coefficients;
 pub mod group;
 pub mod header;

@@ -1,10 +1,6 @@
 -- No record in range gives more than a full file's sums allow, so those are exact: a table's test bounds its factor, and a formula's bound is
 -- written as the formula is. Assumes nothing.
-use Prim.Native.Nat.{◌*◌, ◌≤◌}
-use native.Mathlib.Nat.{le_refl, sub-le}
-use native.Mathlib.Omega.{arith}
-use mathlib.Core.Path.{◌≡◌}
-use mathlib.Core.Bool.{true}
+use Rattle.std.proofs.Common.{◌*◌, ◌≤◌, le_refl, sub-le, arith, ◌≡◌, true}
 use Rattle.sums.proofs.Products.{◌⊗◌}
 use Rattle.sums.specs.Exactness.{Bounded}
 use Rattle.sums.proofs.Sources.{bounded}

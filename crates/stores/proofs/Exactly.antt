@@ -1,8 +1,6 @@
 -- That nothing is lost: the answer to a record in range has exactly the rule's tonnes and grams, since they stay below what a sum holds.
 -- Assumes nothing.
-use mathlib.Core.Path.{◌≡◌}
-use mathlib.Core.Bool.{true}
-use lib.Dec.{lit<}
+use Rattle.std.proofs.Common.{◌≡◌, true, lit<}
 use Rattle.sums.specs.Choice.{if_then_else}
 use Rattle.sums.specs.Answer.{emitted}
 use Rattle.sums.specs.Exactness.{Exactly}

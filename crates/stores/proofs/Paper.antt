@@ -1,8 +1,5 @@
 -- That the whole numbers are the papers' fractions: each rule's term is written as its formula is, and then taken to one denominator. Assumes nothing.
-use Prim.Native.Nat.{ℕ, ◌*◌, ◌-◌}
-use native.Mathlib.Omega.{arith}
-use mathlib.Core.Path.{◌≡◌}
-use lib.Dec.{lit<}
+use Rattle.std.proofs.Common.{ℕ, ◌*◌, ◌-◌, arith, ◌≡◌, lit<}
 use Rattle.sums.specs.Fraction.{Frac, ◌over◌, ◌≈◌}
 use Rattle.sums.specs.Figures.{annual_of, peak_of}
 use Rattle.sums.proofs.Fractions.{≈_refl, ≈_⊙, ≈_per, ≈_over, parts}

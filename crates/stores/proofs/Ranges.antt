@@ -1,8 +1,5 @@
 -- What the range tests say: each bound is one of the tests. Assumes nothing.
-use Prim.Native.Nat.{◌≤◌}
-use mathlib.Core.Path.{◌≡◌}
-use mathlib.Core.Bool.{true}
-use borrow.Author.Tests.{leb-true}
+use Rattle.std.proofs.Common.{◌≤◌, ◌≡◌, true, leb-true}
 use Rattle.sums.proofs.Choices.{nth}
 use Rattle.store_records.specs.Fields.{bulk_tests, bulk_in_range, handling_tests, handling_in_range, standing_tests, standing_in_range, aspiration_tests, aspiration_in_range}
 use Rattle.store_records.specs.declared.records.Bulk.{Bulk}

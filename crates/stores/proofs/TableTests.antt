@@ -1,9 +1,6 @@
 -- One computed test over each table: every entry is a whole number of parts of the code's denominator, and how many at most. K6 alone is no table.
 -- Assumes nothing.
-use Prim.Native.Nat.{ℕ, ◌+◌, ◌-◌, ◌<◌, ◌≤◌}
-use native.Mathlib.Omega.{arith}
-use mathlib.Core.Path.{refl}
-use lib.Dec.{eqb, lit<, lit≤}
+use Rattle.std.proofs.Common.{ℕ, ◌+◌, ◌-◌, ◌<◌, ◌≤◌, arith, refl, eqb, lit<, lit≤}
 use Rattle.sums.specs.Fraction.{◌over◌, ◌≈◌, parts_of}
 use Rattle.sums.proofs.Choices.{both}
 use Rattle.sums.proofs.Fractions.{≈_refl, parts}

@@ -1,4 +1,6 @@
 // The source rules of bulk stores: handling, standing and aspiration.
+#![tactic(auto)]
+
 pub mod rules;
 mod tables;
 

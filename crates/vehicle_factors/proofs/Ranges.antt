@@ -1,8 +1,5 @@
 -- What the range test of factors says: the bound of each percent and of each time. Assumes nothing.
-use Prim.Native.Nat.{ℕ, ◌≤◌}
-use mathlib.Core.Path.{◌≡◌}
-use mathlib.Core.Bool.{true}
-use lib.ListN.{get_or}
+use Rattle.std.proofs.Common.{ℕ, ◌≤◌, ◌≡◌, true, get_or}
 use Rattle.sums.proofs.Choices.{nth, each}
 use Rattle.vehicle_factors.specs.Factors.{factors_tests, factors_in_range}
 use Rattle.vehicle_factors.specs.declared.Factors.{Factors}

@@ -1,9 +1,5 @@
 -- The standard factors are the methodology's tables, nothing dropped: one computed test over each table. And they are in range. Assumes nothing.
-use Prim.Native.Nat.{ℕ}
-use mathlib.Core.Path.{◌≡◌, refl}
-use mathlib.Core.Bool.{true}
-use mathlib.Core.List.{List}
-use lib.ListN.{get_or}
+use Rattle.std.proofs.Common.{ℕ, ◌≡◌, refl, true, List, get_or}
 use Rattle.sums.specs.Fraction.{Frac, ◌over◌, whole, ◌≈◌, parts_of}
 use Rattle.sums.proofs.Tables.{scale, scaled_at, all_scaled, entry}
 use Rattle.vehicle_factors.specs.Factors.{petrol_control, diesel_control, car_minutes, truck_minutes, standard_factors, AsTabled, factors_in_range}

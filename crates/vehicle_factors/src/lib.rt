@@ -1,4 +1,6 @@
 // Vehicle factors, control percents and warm-up times, as one value; and the methodology's tables as such a value.
+#![tactic(auto)]
+
 ghost use Rattle.std.specs.Prelude.{◌≡◌};
 ghost use Rattle.vehicle_factors.specs.Factors.{standard_factors};
 

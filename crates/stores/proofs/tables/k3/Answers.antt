@@ -1,0 +1,20 @@
+-- The entry at the band is the table's, in whole parts.
+use Rattle.std.proofs.Common.{arith}
+use Rattle.sums.specs.Fraction.{◌over◌, parts_of}
+use Rattle.sums.specs.Table.{bounds}
+use Rattle.sums.proofs.Tables.{line_below, looked_up, met}
+use Rattle.stores.specs.Rules.{k3_table}
+use Rattle.stores.proofs.TableTests.{k3_scaled}
+use Rattle.stores.proofs.tables.k3.Goals as goal
+
+pub offset_bounds-band : goal.offset_bounds-band
+unfolding parts_of
+offset_bounds-band c = omega (arith, line_below (bounds k3_table) c.args.wind)
+
+pub bounds-band : goal.bounds-band
+unfolding parts_of
+bounds-band c = omega (arith, line_below (bounds k3_table) c.args.wind)
+
+pub returns : goal.returns
+unfolding parts_of
+returns c = let x = c.args.wind in met (rw c.wind_band-band.ensures (looked_up 10 k3_table (23 over 10) x)) (k3_scaled x)
