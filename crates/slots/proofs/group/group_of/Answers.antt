@@ -20,6 +20,6 @@ returns c =
       idle = record { 0 = c.long.ensures i };
       outward = c.distances_at.ensures i;
       inward = c.distances_at-2.ensures i;
-      c = c.days_of.ensures i;
+      days = c.days_of.ensures i;
       timed = record { 0 = c.long-2.ensures i };
     }

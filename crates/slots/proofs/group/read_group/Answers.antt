@@ -14,6 +14,6 @@ returns c =
       c.u16_at.ensures,
       c.number_of.ensures,
       c.group_good.ensures,
-      c.Group-of.ensures,
+      c.group_of-group.ensures,
       c.slot_at-t.ensures.0,
     )

@@ -12,7 +12,7 @@ pub returns-then-n-file : goal.returns-then-n-file
 unfolding slot_of
 returns-then-n-file c =
     let l = c.result-1.given.1 in
-    (yes _ _ _ _ (lt-ltb _ _ c.if-n-file.true) (part-is _ _ _ (omega arith) l), omega arith)
+    (yes _ _ _ _ (lt-ltb _ _ c.if-n-file.true) (part-is _ _ _ (omega arith) (sym l)), omega arith)
 
 pub returns-else-n-file : goal.returns-else-n-file
 unfolding slot_of

@@ -27,4 +27,7 @@ returns-in-5 c = of-slot _ _ _ c.slot_at-t.ensures.0 (simp c.in-5.is c.read_aspi
 
 pub returns-in_default : goal.returns-in_default
 unfolding read_store store_kind store_good store_of by_kind if_then_else
-returns-in_default c = let p = c.slot_at-t in let t = p.result.now in let r = c.in-3.rest in of-slot t _ _ p.ensures.0 (simp (ne_eqb (get_or t 2 0) 3 r.0.0.1, ne_eqb (get_or t 2 0) 4 r.0.1, ne_eqb (get_or t 2 0) 5 r.1))
+returns-in_default c =
+    let p = c.slot_at-t in
+    let kind = get_or p.result.now 2 0 in
+    of-slot p.result.now _ _ p.ensures.0 (simp (ne_eqb kind 3 (omega arith), ne_eqb kind 4 (omega arith), ne_eqb kind 5 (omega arith)))
