@@ -16,7 +16,7 @@ use Rattle.sums.specs.Answer.{Contribution}
 use Rattle.vehicle_fields.specs.Fields.{no_coefficients, untimed_tests, group_in_range}
 use Rattle.vehicle_factors.specs.Factors.{standard_factors}
 use Rattle.warmups.specs.Warmup.{minutes_at, untimed_at}
-use Rattle.warmups.proofs.Conditions.{untimed}
+use Rattle.warmups.proofs.Decided.{untimed}
 use Rattle.vehicles.specs.Rules.{emission_count, contribution_with}
 use Rattle.slots.specs.Bytes.{byte_at, zero_from, slot_of}
 use Rattle.slots.specs.Layout.{group_of, group_kind, group_good, group_read, next_of}

@@ -1,14 +1,6 @@
 -- No group in range gives a code more than a full file's sums allow, so those are exact, and its answer has exactly the rule's tonnes and grams. A
 -- formula's bound is written as the formula is. Assumes nothing.
-use Prim.Native.Nat.{ℕ, ◌+◌, ◌*◌, ◌<◌, ◌≤◌}
-use native.Mathlib.Nat.{le_refl, add-le-add}
-use native.Mathlib.Omega.{arith}
-use mathlib.Core.Path.{◌≡◌, sym, ◌∙◌}
-use mathlib.Core.Bool.{true}
-use mathlib.Core.List.{List}
-use lib.Dec.{lit<}
-use lib.IntN.{ℤ}
-use lib.ListN.{get_or}
+use Rattle.std.proofs.Common.{ℕ, ◌+◌, ◌*◌, ◌<◌, ◌≤◌, le_refl, add-le-add, arith, ◌≡◌, sym, ◌∙◌, true, List, lit<, ℤ, get_or}
 use Rattle.sums.specs.Choice.{if_then_else}
 use Rattle.sums.specs.Answer.{emitted, no_emission}
 use Rattle.sums.proofs.Choices.{right, list_to_at}
@@ -26,7 +18,7 @@ use Rattle.vehicle_factors.proofs.Standard.{standard_in_range}
 use Rattle.warmups.specs.Warmup.{times_of}
 use Rattle.warmups.specs.Parts.{climate_of, conditions_in, ConditionsInRange}
 use Rattle.warmups.specs.declared.warmup.Conditions.{Conditions}
-use Rattle.warmups.proofs.Conditions.{times_in_range, conditions_in_range}
+use Rattle.warmups.proofs.Decided.{times_in_range, conditions_in_range}
 use Rattle.vehicles.specs.Rules.{percent_of, contribution_by, contribution_of, emission_of, emission_count, emissions_of, group_answer}
 use Rattle.vehicles.specs.Parts.{activity_of, ActivityInRange, NeutraliserInRange, mass_parts, out_parts, year_parts}
 use Rattle.vehicles.specs.declared.activity.Activity.{Activity}

@@ -1,14 +1,7 @@
 -- The whole numbers are the paper's fractions: each formula by a term that is written as the formula is. A control factor y is c percent. What the
 -- periods give together is what the months give, by one month after the other; the months have one factor, N times the share, which leaves their sum.
 -- Assumes nothing.
-use Prim.Native.Nat.{ℕ, zero, suc, ◌+◌, ◌*◌, ◌<◌}
-use native.Mathlib.Omega.{arith}
-use mathlib.Core.Path.{◌≡◌, ap, ◌∙◌}
-use mathlib.Core.Bool.{true}
-use mathlib.Core.List.{List}
-use lib.Dec.{lit<}
-use lib.IntN.{ℤ, pos}
-use lib.ListN.{get_or}
+use Rattle.std.proofs.Common.{ℕ, zero, suc, ◌+◌, ◌*◌, ◌<◌, arith, ◌≡◌, ap, ◌∙◌, true, List, lit<, ℤ, pos, get_or}
 use Rattle.sums.specs.Choice.{sum_to, list_to}
 use Rattle.sums.specs.Fraction.{Frac, ◌over◌, ◌≈◌}
 use Rattle.sums.specs.Figures.{tonne_parts, gram_parts}
@@ -27,7 +20,7 @@ use Rattle.warmups.specs.Temperatures.{warmup_band, lowest_of}
 use Rattle.warmups.specs.Warmup.{times_of, tenths_in, period_at, minutes_at}
 use Rattle.warmups.specs.Parts.{climate_of, period_in, conditions_in}
 use Rattle.warmups.specs.declared.warmup.Conditions.{Conditions}
-use Rattle.warmups.proofs.Conditions.{period_same, band_at}
+use Rattle.warmups.proofs.Decided.{period_same, band_at}
 use Rattle.vehicles.specs.Rules.{run_and_idle, out_grams, in_grams, month_grams, annual_tonnes, peak_grams, percent_of, control_of, contribution_by, contribution_of, emission_of, emission_count, emissions_of, group_answer}
 use Rattle.vehicles.specs.Parts.{distance_sum, month_period, month_warmup, month_run, month_idle, activity_of, run_and_idle_parts, mass_parts, out_parts, year_parts, year_units, peak_units, emission_parts, emissions_in, answer_in}
 use Rattle.vehicles.proofs.Ranges.{in_range_is}

@@ -1,15 +1,7 @@
 -- A month adds to its own period alone. So a sum over the periods, each with its coefficient, is the sum over the months, each with its period's
 -- coefficient; and what each month has at most bounds the periods together. Assumes nothing.
-use Prim.Native.Nat.{ℕ, zero, suc, ◌+◌, ◌*◌, ◌<◌, ◌≤◌, zero-le}
-use native.Mathlib.Nat.{le_refl, add-le-add}
-use native.Mathlib.Omega.{arith}
-use mathlib.Core.Path.{◌≡◌, ap, ◌∙◌}
-use mathlib.Core.Bool.{true}
-use mathlib.Core.List.{List}
-use borrow.Author.Tests.{eqb-true, eqb-false}
-use lib.Dec.{eqb, lit<}
-use lib.ListN.{get_or, set, length}
-use lib.Seq.{get_or-set_same, get_or-set_other}
+use Rattle.std.proofs.Common.{ℕ, zero, suc, ◌+◌, ◌*◌, ◌<◌, ◌≤◌, zero-le, le_refl, add-le-add, arith, ◌≡◌, ap, ◌∙◌, true, List, eqb-true, eqb, lit<, get_or, set, length, get_or-set_same, get_or-set_other}
+use borrow.Author.Tests.{eqb-false}
 use Rattle.sums.specs.Choice.{if_then_else, sum_to, list_to}
 use Rattle.sums.proofs.Choices.{both, cases, sum_to_step, sum_to_bound}
 use Rattle.sums.proofs.Products.{◌⊗◌}
@@ -17,7 +9,7 @@ use Rattle.vehicle_fields.specs.Fields.{group_in_range, coefficients_in_range}
 use Rattle.vehicle_fields.specs.declared.group.Group.{Group}
 use Rattle.vehicle_fields.specs.declared.group.Coefficients.{Coefficients}
 use Rattle.warmups.specs.Parts.{TimesInRange}
-use Rattle.warmups.proofs.Conditions.{period_below, tenths_most}
+use Rattle.warmups.proofs.Decided.{period_below, tenths_most}
 use Rattle.vehicles.specs.Parts.{in_period, day_run, month_period, month_warmup, month_run, month_idle, activity_of, warmup_parts, run_parts, ActivityInRange}
 use Rattle.vehicles.specs.declared.activity.Activity.{Activity}
 use Rattle.vehicles.proofs.Ranges.{ranged, twice, days, three, warmup, run, idle}

@@ -1,14 +1,5 @@
 -- What the range tests of a group, of coefficients and of factors say: the bound of each field, read off its test. Assumes nothing.
-use Prim.Native.Nat.{ℕ, zero, suc, ◌<◌, ◌≤◌}
-use native.Mathlib.Nat.{le_trans}
-use native.Mathlib.Omega.{arith}
-use mathlib.Core.Path.{◌≡◌, refl}
-use mathlib.Core.Bool.{Bool, true, false, ◌&&◌}
-use mathlib.Core.List.{List, [], ◌∷◌}
-use borrow.Author.Tests.{leb-true}
-use lib.Dec.{leb, eqb}
-use lib.IntN.{ℤ}
-use lib.ListN.{get_or}
+use Rattle.std.proofs.Common.{ℕ, zero, suc, ◌<◌, ◌≤◌, le_trans, arith, ◌≡◌, refl, Bool, true, false, ◌&&◌, List, [], ◌∷◌, leb-true, leb, eqb, ℤ, get_or}
 use Rattle.sums.specs.Choice.{all_of}
 use Rattle.sums.proofs.Choices.{both, left, right, nth, each, all_to_at}
 use Rattle.vehicle_fields.specs.Fields.{pollutant_count, distances_in_range, days_in_range, month_lengths, temperatures_in_range, group_in_range, group_tests, coefficients_in_range, seven, no_minute, no_kilometre, all_in_range, no_coefficients, source_in_range, in_range}

@@ -1,4 +1,6 @@
 // The source rule of vehicle groups.
+#![tactic(auto)]
+
 mod activity;
 mod arithmetic;
 mod control;

@@ -1,19 +1,10 @@
 -- A place among edges, from the tests of the code on an i16. The code tests from the coldest edge up and the definition from the warmest down, so each
 -- comparison that the definition makes follows from one that the code made with an edge on the same side. Assumes nothing.
-use Prim.Native.Nat.{ℕ, zero, suc, pred, ◌<◌, ◌≤◌}
-use native.Mathlib.Nat.{not-suc-le-zero}
-use native.Mathlib.Omega.{arith}
+use Rattle.std.proofs.Common.{ℕ, zero, suc, pred, ◌<◌, ◌≤◌, not-suc-le-zero, arith, ◌≡◌, refl, sym, ap, ◌∙◌, subst, Bool, true, false, not, List, [], ◌∷◌, le-leb, T, leb, lit<, ℤ, pos, negsuc, w16, SFits, to_z, of_z, to_z-of_z}
 use native.Mathlib.Decide.{dec_lt}
-use mathlib.Core.Path.{◌≡◌, refl, sym, ap, ◌∙◌, subst}
-use mathlib.Core.Bool.{Bool, true, false, not}
-use mathlib.Core.List.{List, [], ◌∷◌}
-use borrow.Author.Tests.{le-leb, lt-leb}
-use lib.Dec.{T, leb, lit<, leb-suc-suc}
-use lib.IntN.{ℤ, pos, negsuc}
+use borrow.Author.Tests.{lt-leb}
+use lib.Dec.{leb-suc-suc}
 use lib.Signed.{lt_z, le_z, lt_z_yes, le_z_yes, lt_z_no, <ℤ-≤ℤ_trans, clash_ℤ}
-use mir.Syntax.{w16}
-use mir.Val.{SFits, to_z, of_z}
-use mir.Facts.{to_z-of_z}
 use Rattle.sums.specs.Choice.{if_then_else}
 use Rattle.warmups.specs.Temperatures.{below, place}
 
@@ -27,6 +18,7 @@ under t b e h l = holds (lt_z t e) (<ℤ-≤ℤ_trans (lt_z_yes {a = t} {b = b} 
   where
     holds : (x : Bool) → T x → x ≡ true
     holds true p = refl
+    holds false p = elim p [ ]
 
 not_under : (t b e : ℤ) → lt_z t b ≡ false → le_z e b ≡ true → lt_z t e ≡ false
 not_under t b e h l = go (lt_z t e) refl

@@ -1,3 +1,3 @@
 -- The laws that belong to no one function.
 pub mod Edges
-pub mod Conditions
+pub mod Decided

@@ -1,4 +1,6 @@
 // What a temperature decides for a vehicle group: the period, and the minutes of warm-up.
+#![tactic(auto)]
+
 pub mod climate;
 mod temperature;
 pub mod warmup;

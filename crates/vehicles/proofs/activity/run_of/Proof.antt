@@ -1,5 +1,5 @@
 -- The three products, whose sum is in range.
-use native.Mathlib.Omega.{arith}
+use Rattle.std.proofs.Common.{arith}
 use Rattle.sums.specs.Choice.{sum_to}
 use Rattle.vehicles.proofs.Periods.{run_parts_lem}
 use Rattle.vehicles.proofs.activity.run_of.Statement.{statement}

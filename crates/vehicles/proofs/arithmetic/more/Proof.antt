@@ -1,6 +1,5 @@
 -- A product of bounded factors, and a sum that fits.
-use native.Mathlib.Omega.{arith}
-use Prim.Native.Nat.{◌≤◌}
+use Rattle.std.proofs.Common.{arith, ◌≤◌}
 use mir.Facts.{Fits-below}
 use Rattle.sums.proofs.Products.{◌⊗◌}
 use Rattle.vehicles.proofs.arithmetic.more.Statement.{statement}

@@ -1,8 +1,6 @@
 -- Two numbers of 32 bits have a product of 64.
-use native.Mathlib.Omega.{arith}
+use Rattle.std.proofs.Common.{arith, ◌≤◌, mul-le-mul}
 use mir.Facts.{Fits-below}
-use Prim.Native.Nat.{◌≤◌}
-use native.Mathlib.Nat.{mul-le-mul}
 use Rattle.vehicles.proofs.arithmetic.product.Statement.{statement}
 use Rattle.vehicles.proofs.arithmetic.product.Tie as tie
 

@@ -1,7 +1,5 @@
 -- The entry of the fuel's row, where control is done.
-use native.Mathlib.Omega.{arith}
-use mathlib.Core.Path.{refl}
-use borrow.Author.Tests.{eq-eqb, ne_eqb}
+use Rattle.std.proofs.Common.{arith, refl, eq-eqb, ne_eqb}
 use Rattle.sums.proofs.Choices.{yes, no}
 use Rattle.vehicles.specs.Rules.{percent_of}
 use Rattle.vehicles.proofs.control.control_of.Statement.{statement}

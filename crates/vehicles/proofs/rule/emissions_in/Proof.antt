@@ -1,15 +1,11 @@
 -- The emissions of the places passed stand in their places.
-use native.Mathlib.Omega.{arith}
-use mathlib.Core.Path.{◌≡◌, refl, ap, ◌∙◌}
-use mathlib.Core.List.{List}
-use Prim.Native.Nat.{ℕ, ◌≤◌, ◌<◌, ◌-◌}
-use lib.ListN.{get_or, length, length-set}
+use Rattle.std.proofs.Common.{arith, ◌≡◌, refl, ap, ◌∙◌, List, ℕ, ◌≤◌, ◌<◌, ◌-◌, get_or, length, length-set}
 use Rattle.sums.specs.Answer.{no_emission}
 use Rattle.sums.proofs.Choices.{filled, list_to_is}
 use Rattle.vehicle_fields.specs.Fields.{no_coefficients}
 use Rattle.warmups.specs.Warmup.{times_of}
 use Rattle.warmups.specs.Parts.{conditions_in, TimesInRange}
-use Rattle.warmups.proofs.Conditions.{times_in_range, conditions_in_range}
+use Rattle.warmups.proofs.Decided.{times_in_range, conditions_in_range}
 use Rattle.vehicles.specs.Rules.{emission_count}
 use Rattle.vehicles.specs.Parts.{activity_of, emission_parts, emissions_in}
 use Rattle.vehicles.proofs.Ranges.{ranged, of_six}

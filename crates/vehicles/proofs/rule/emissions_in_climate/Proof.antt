@@ -1,7 +1,5 @@
 -- The two tests choose the answer; a group in range, with the standard factors, has what the emissions ask.
-use native.Mathlib.Omega.{arith}
-use mathlib.Core.Path.{◌≡◌, ◌∙◌, sym}
-use mathlib.Core.Bool.{true}
+use Rattle.std.proofs.Common.{arith, ◌≡◌, ◌∙◌, sym, true}
 use Rattle.sums.proofs.Choices.{yes, no}
 use Rattle.vehicle_fields.specs.Fields.{source_in_range}
 use Rattle.vehicle_factors.proofs.Standard.{standard_in_range}

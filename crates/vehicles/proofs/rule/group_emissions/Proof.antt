@@ -1,7 +1,5 @@
 -- The answer in the climate of temperatures in range; out of range, 9.
-use native.Mathlib.Omega.{arith}
-use mathlib.Core.Path.{◌∙◌, sym, ap}
-use mathlib.Core.Bool.{◌&&◌}
+use Rattle.std.proofs.Common.{arith, ◌∙◌, sym, ap, ◌&&◌}
 use Rattle.sums.proofs.Choices.{no}
 use Rattle.vehicle_fields.specs.Fields.{source_in_range}
 use Rattle.vehicles.specs.Rules.{group_answer}

@@ -1,7 +1,5 @@
 -- A peak fits a word.
-use native.Mathlib.Nat.{le_refl}
-use native.Mathlib.Omega.{arith}
-use mathlib.Core.Path.{◌∙◌}
+use Rattle.std.proofs.Common.{le_refl, arith, ◌∙◌}
 use mir.Facts.{Fits-below}
 use Rattle.sums.proofs.Products.{◌⊗◌}
 use Rattle.vehicles.proofs.Ranges.{ranged}

@@ -1,7 +1,5 @@
 -- The row of the fuel.
-use native.Mathlib.Omega.{arith}
-use mathlib.Core.Path.{refl}
-use borrow.Author.Tests.{eq-eqb, ne_eqb}
+use Rattle.std.proofs.Common.{arith, refl, eq-eqb, ne_eqb}
 use Rattle.sums.proofs.Choices.{yes, no}
 use Rattle.vehicles.specs.Rules.{pollutant_code}
 use Rattle.vehicles.proofs.rule.pollutant_code.Statement.{statement}

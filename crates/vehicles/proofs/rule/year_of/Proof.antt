@@ -1,6 +1,5 @@
 -- What is in range has the bounds that the mass asks; the calls together are the definition.
-use borrow.Author.Rules.{rules}
-use native.Mathlib.Omega.{arith}
+use Rattle.std.proofs.Common.{rules, arith}
 use Rattle.vehicles.specs.Parts.{year_parts}
 use Rattle.vehicles.proofs.Ranges.{ranged}
 use Rattle.vehicles.proofs.Periods.{warmup_parts_lem, run_parts_lem, idle_parts}

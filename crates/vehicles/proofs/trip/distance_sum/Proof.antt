@@ -1,6 +1,5 @@
 -- Two distances in range have a sum of 32 bits.
-use borrow.Author.Rules.{rules}
-use native.Mathlib.Omega.{arith}
+use Rattle.std.proofs.Common.{rules, arith}
 use Rattle.vehicles.proofs.Ranges.{ranged_distances}
 use Rattle.vehicles.proofs.trip.distance_sum.Statement.{statement}
 use Rattle.vehicles.proofs.trip.distance_sum.Tie as tie

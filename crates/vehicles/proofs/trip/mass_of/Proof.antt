@@ -1,5 +1,5 @@
 -- One percentage after the other.
-use native.Mathlib.Omega.{arith}
+use Rattle.std.proofs.Common.{arith}
 use Rattle.vehicles.specs.Parts.{mass_parts}
 use Rattle.vehicles.proofs.trip.mass_of.Statement.{statement}
 use Rattle.vehicles.proofs.trip.mass_of.Tie as tie

@@ -1,8 +1,6 @@
 -- A product of bounded factors.
-use native.Mathlib.Omega.{arith}
-use mathlib.Core.Path.{refl}
+use Rattle.std.proofs.Common.{arith, refl, le_refl}
 use mir.Facts.{Fits-below}
-use native.Mathlib.Nat.{le_refl}
 use Rattle.sums.proofs.Products.{◌⊗◌}
 use Rattle.vehicles.proofs.trip.percent.Statement.{statement}
 use Rattle.vehicles.proofs.trip.percent.Tie as tie

@@ -1,5 +1,5 @@
 -- Emissions of nothing.
-use native.Mathlib.Omega.{arith}
+use Rattle.std.proofs.Common.{arith}
 use Rattle.vehicles.proofs.rule.GroupAnswer.refusal.Statement.{statement}
 use Rattle.vehicles.proofs.rule.GroupAnswer.refusal.Tie as tie
 

@@ -1,13 +1,5 @@
 -- A band decides the period that the temperature has; the minutes of an untimed and of a timed group; and what a band decides is in range. Assumes nothing.
-use Prim.Native.Nat.{ℕ, suc, ◌<◌, ◌≤◌}
-use native.Mathlib.Omega.{arith}
-use mathlib.Core.Path.{◌≡◌, refl, ap}
-use mathlib.Core.Bool.{Bool, true, false}
-use mathlib.Core.List.{List}
-use borrow.Author.Tests.{ltb-true, le-ltb, ne_eqb}
-use lib.Dec.{ltb, eqb, lit<}
-use lib.IntN.{ℤ, pos}
-use lib.ListN.{get_or}
+use Rattle.std.proofs.Common.{ℕ, suc, ◌<◌, ◌≤◌, arith, ◌≡◌, refl, ap, Bool, true, false, List, ltb-true, le-ltb, ne_eqb, ltb, eqb, lit<, ℤ, pos, get_or}
 use lib.Signed.{lt_z}
 use Rattle.sums.specs.Choice.{if_then_else}
 use Rattle.sums.specs.Fraction.{◌over◌}
