@@ -1,0 +1,20 @@
+-- The totals are those of the months passed, each month in its own period.
+use Rattle.std.proofs.Common.{arith, ◌≡◌, refl, ap, ◌∙◌, ℕ, ◌≤◌, ◌<◌, ◌-◌, get_or, length, length-set}
+use Rattle.sums.specs.Choice.{sum_to}
+use Rattle.sums.proofs.Choices.{sum_to_step, sum_to_bound, list_to_is}
+use Rattle.warmups.specs.Parts.{tenths, conditions_in}
+use Rattle.warmups.proofs.Decided.{conditions_in_range}
+use Rattle.vehicles.specs.Parts.{metres, month_warmup, month_run, month_idle, in_period, activity_of}
+use Rattle.vehicles.proofs.Ranges.{ranged, three}
+use Rattle.vehicles.proofs.Periods.{added, alone, day_run_lem, warmup_most, run_most, idle_most}
+use Rattle.vehicles.proofs.activity.activity_of.Given as goal
+
+abbrev pub invariant-loop-i : goal.invariant-loop-i
+invariant-loop-i l =
+    (l.i ≤ 12) × (length l.minutes ≡ 3) × (length l.metres ≡ 3)
+    × ((p : ℕ) → p < 3 → get_or l.minutes p (tenths 0) ≡ tenths (in_period l.g l.bands (month_warmup l.times l.g l.bands) l.i p))
+    × ((p : ℕ) → p < 3 → get_or l.metres p (metres 0) ≡ metres (in_period l.g l.bands (month_run l.g) l.i p))
+    × (l.idling ≡ tenths (sum_to l.i (month_idle l.g)))
+
+abbrev pub decreases-loop-i : goal.decreases-loop-i
+decreases-loop-i l = 12 - l.i

@@ -1,0 +1,13 @@
+-- The three products, whose sum is in range.
+use Rattle.std.proofs.Common.{arith}
+use Rattle.sums.specs.Choice.{sum_to}
+use Rattle.vehicles.proofs.Periods.{run_parts_lem}
+use Rattle.vehicles.proofs.activity.run_of.Goals as goal
+
+pub total-requires : goal.total-requires
+unfolding sum_to
+total-requires c = rw (c.over_metres-3.ensures, c.over_metres-2.ensures, c.over_metres.ensures) (omega (arith, run_parts_lem c.args.k c.args.a c.requires.0 c.requires.1))
+
+pub returns : goal.returns
+unfolding sum_to
+returns c = rw (c.total.ensures, c.over_metres-3.ensures, c.over_metres-2.ensures, c.over_metres.ensures) (omega arith)

@@ -1,0 +1,6 @@
+-- Emissions of nothing.
+use Rattle.std.proofs.Common.{arith}
+use Rattle.vehicles.proofs.rule.GroupAnswer.refusal.Goals as goal
+
+pub returns : goal.returns
+returns c = rw c.none.ensures
