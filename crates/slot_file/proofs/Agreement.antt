@@ -1,12 +1,7 @@
 -- Two accepted files that are alike get the same answers. A figure goes by the number of exact units of its code alone (`Units`), which is a total over
 -- the groups, one over the store records and one over the locomotives, and lists that are alike have the same totals and the same length (`Bag`, `Same`). And the counts are the lengths of the chains. Assumes
 -- nothing.
-use Prim.Native.Nat.{ℕ, ◌*◌, ◌<◌}
-use native.Mathlib.Omega.{arith}
-use mathlib.Core.Path.{◌≡◌, refl, sym, ap, ◌∙◌}
-use mathlib.Core.List.{List, map, reverse}
-use lib.Dec.{lit<}
-use lib.IntN.{ℤ}
+use Rattle.std.proofs.Common.{ℕ, ◌*◌, ◌<◌, arith, ◌≡◌, refl, sym, ap, ◌∙◌, List, map, reverse, lit<, ℤ}
 use lib.ListN.{length-map, length-reverse}
 use Rattle.sums.specs.Fraction.{Frac, ◌over◌, whole, ◌⊙◌, ◌≈◌, parts_of}
 use Rattle.sums.specs.Figures.{nearest, tonne_parts, gram_parts}

@@ -1,9 +1,6 @@
 -- The outcome of a list of questions: by the first that is answered no, and by what follows where none is; and what is answered along an append of lists. Assumes
 -- nothing.
-use Prim.Native.Nat.{ℕ, zero, suc}
-use mathlib.Core.Path.{◌≡◌, refl}
-use mathlib.Core.Bool.{Bool, true, false}
-use mathlib.Core.List.{List, [], ◌∷◌, ◌++◌}
+use Rattle.std.proofs.Common.{ℕ, zero, suc, ◌≡◌, refl, Bool, true, false, List, [], ◌∷◌, ◌++◌}
 use Rattle.sums.specs.Choice.{if_then_else}
 use Rattle.slot_file.specs.Questions.{Question, Outcome, refused}
 use Rattle.slot_file.specs.Walk.{first}

@@ -1,9 +1,6 @@
 -- A file with zeros in 32..33 is answered as before, but for the third count: its locomotive chain ends where it begins, so the walk is 01's, and nothing is summed
 -- behind the store records. Assumes nothing.
-use Prim.Native.Nat.{ℕ}
-use native.Mathlib.Omega.{arith}
-use mathlib.Core.Path.{◌≡◌, refl, sym, ap, ◌∙◌}
-use mathlib.Core.List.{List, [], append-nil}
+use Rattle.std.proofs.Common.{ℕ, arith, ◌≡◌, refl, sym, ap, ◌∙◌, List, [], append-nil}
 use Rattle.slots.specs.Bytes.{byte_at, u16_at, zero_from, slot_of}
 use Rattle.slots.specs.Layout.{header_of}
 use Rattle.slot_file.specs.Sources.{header_at, Chains, inventory_at}

@@ -1,14 +1,8 @@
 -- A walk along a chain, both ways: the outcome of the walk is the refusal at the first question that is answered no, or what follows the chain's end; and
 -- a chain that is reached determines the outcome. The walk's own step, one link, is all that is asked of it. Assumes nothing.
-use Prim.Native.Nat.{ℕ, zero, suc, ◌+◌, ◌-◌, ◌<◌}
-use mathlib.Core.Path.{◌≡◌, refl, sym, ap, subst, ◌∙◌}
-use mathlib.Core.List.{List, [], ◌∷◌}
-use mathlib.Core.Bool.{Bool, true, false}
-use lib.ListN.{length}
-use lib.Dec.{eqb}
-use native.Mathlib.Omega.{arith}
+use Rattle.std.proofs.Common.{ℕ, zero, suc, ◌+◌, ◌-◌, ◌<◌, ◌≡◌, refl, sym, ap, subst, ◌∙◌, List, [], ◌∷◌, Bool, true, false, length, eqb, arith, eqb-true}
 use native.Mathlib.Decide.{dec_lt}
-use borrow.Author.Tests.{eqb-true, eqb-false}
+use borrow.Author.Tests.{eqb-false}
 use Rattle.slots.specs.Bytes.{slot_of}
 use Rattle.slots.specs.Layout.{next_of}
 use Rattle.slot_file.specs.Questions.{most_slots, Question, Outcome, refused}

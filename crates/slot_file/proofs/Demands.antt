@@ -1,14 +1,7 @@
 -- THE LETTER'S THREE DEMANDS, of the definitions that `walk::check` and `walk::answer` are proved to equal. By what an outcome means (`Outcomes`), by the range of
 -- each source that passed (`Ranged`), and by what two alike files have in common (`Agreement`). Assumes nothing.
-use Prim.Native.Nat.{ℕ, zero, suc, ◌-◌, ◌<◌, ◌≤◌}
-use native.Mathlib.Nat.{not-suc-le-zero, le_of_suc-le-suc}
-use native.Mathlib.Omega.{arith}
-use mathlib.Core.Path.{◌≡◌, refl, sym, ap, ◌∙◌}
-use mathlib.Core.Bool.{true}
-use mathlib.Core.List.{List, [], ◌∷◌, map, reverse_aux}
-use lib.Dec.{leb, eqb, lit<}
-use lib.ListN.{get_or, length}
-use borrow.Author.Tests.{eqb-true, leb-true}
+use Rattle.std.proofs.Common.{ℕ, zero, suc, ◌-◌, ◌<◌, ◌≤◌, not-suc-le-zero, le_of_suc-le-suc, arith, ◌≡◌, refl, sym, ap, ◌∙◌, true, List, [], ◌∷◌, map, leb, eqb, lit<, get_or, length, eqb-true, leb-true}
+use mathlib.Core.List.{reverse_aux}
 use Rattle.sums.specs.Choice.{if_then_else, all_to}
 use Rattle.sums.specs.Figures.{tonne_parts, gram_parts}
 use Rattle.sums.specs.Answer.{Contribution, emitted, no_emission}

@@ -1,13 +1,7 @@
 -- Different slots of a file from 1 up are fewer than the most that it has: each takes a mark of its own out of as many. Assumes nothing.
-use Prim.Native.Nat.{ℕ, zero, suc, ◌+◌, ◌≤◌, ◌<◌}
-use mathlib.Core.Path.{◌≡◌, refl, sym, ◌∙◌}
-use mathlib.Core.List.{List, [], ◌∷◌}
-use mathlib.Core.Bool.{Bool, true, false}
-use lib.ListN.{length, get_or, set, replicate, length-set, get_or-replicate}
-use lib.Seq.{get_or-set_same, get_or-set_other}
-use lib.Dec.{eqb}
-use native.Mathlib.Omega.{arith}
-use borrow.Author.Tests.{eqb-true, eqb-false}
+use Rattle.std.proofs.Common.{ℕ, zero, suc, ◌+◌, ◌≤◌, ◌<◌, ◌≡◌, refl, sym, ◌∙◌, List, [], ◌∷◌, Bool, true, false, length, get_or, set, replicate, length-set, get_or-set_same, get_or-set_other, eqb, arith, eqb-true}
+use lib.ListN.{get_or-replicate}
+use borrow.Author.Tests.{eqb-false}
 use Rattle.sums.specs.Choice.{if_then_else}
 use Rattle.slot_file.specs.Questions.{most_slots, member}
 use Rattle.slot_file.specs.Parts.{marks_of}

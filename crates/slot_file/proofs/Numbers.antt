@@ -1,11 +1,7 @@
 -- A refusal of a file has a number from 1 to the last that is not the listing's, and 12 by the last questions alone: the numbers stand in the questions, so the
 -- tests of them are computed. Assumes nothing.
-use Prim.Native.Nat.{ℕ, zero, suc, ◌+◌, ◌≤◌}
-use mathlib.Core.Path.{◌≡◌, refl}
-use mathlib.Core.Bool.{Bool, true, ◌&&◌, not}
-use mathlib.Core.List.{List, [], ◌∷◌, ◌++◌}
-use lib.Dec.{leb, eqb}
-use borrow.Author.Tests.{leb-true, eqb-false, not-true}
+use Rattle.std.proofs.Common.{ℕ, zero, suc, ◌+◌, ◌≤◌, ◌≡◌, refl, Bool, true, ◌&&◌, not, List, [], ◌∷◌, ◌++◌, leb, eqb, leb-true}
+use borrow.Author.Tests.{eqb-false, not-true}
 use Rattle.sums.specs.Choice.{all_of}
 use Rattle.sums.proofs.Choices.{nth, left, right}
 use Rattle.vehicle_fields.specs.Fields.{pollutant_count}

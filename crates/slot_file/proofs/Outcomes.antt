@@ -1,14 +1,8 @@
 -- An outcome means what the questions say, and only that outcome does. Each chain is walked by `Chains.walks`; what is asked of its slots keeps them different
 -- and below the slot count, so the walk never runs out. Assumes nothing.
-use Prim.Native.Nat.{ℕ, suc, ◌%◌, ◌<◌, ◌≤◌}
-use mathlib.Core.Path.{◌≡◌, refl, subst, subst⁻¹, ◌∙◌}
-use mathlib.Core.Logic.{◌↔◌}
-use mathlib.Core.List.{List, [], ◌∷◌, ◌++◌}
-use mathlib.Core.Bool.{true, ◌&&◌, not}
-use lib.ListN.{length, length-append}
-use lib.Dec.{leb, ltb, eqb}
-use native.Mathlib.Omega.{arith}
-use borrow.Author.Tests.{leb-true, ltb-true, ne_eqb, not-true}
+use Rattle.std.proofs.Common.{ℕ, suc, ◌%◌, ◌<◌, ◌≤◌, ◌≡◌, refl, subst, ◌∙◌, ◌↔◌, List, [], ◌∷◌, ◌++◌, true, ◌&&◌, not, length, length-append, leb, ltb, eqb, arith, leb-true, ltb-true, ne_eqb}
+use mathlib.Core.Path.{subst⁻¹}
+use borrow.Author.Tests.{not-true}
 use Rattle.sums.specs.Choice.{if_then_else}
 use Rattle.sums.proofs.Choices.{left, right}
 use Rattle.slots.specs.Bytes.{slot_size, slot_of}

@@ -1,12 +1,6 @@
 -- The tests of being alike decide equality: numbers that are equal one by one make equal records, and a test on elements that decides equality gives one on
 -- lists. Assumes nothing.
-use Prim.Native.Nat.{ℕ}
-use mathlib.Core.Path.{◌≡◌, refl, ap₂}
-use mathlib.Core.List.{List, [], ◌∷◌}
-use mathlib.Core.Bool.{Bool, true, false}
-use lib.Dec.{eqb}
-use lib.ListN.{get_or, drop}
-use borrow.Author.Tests.{eqb-true, eq-eqb}
+use Rattle.std.proofs.Common.{ℕ, ◌≡◌, refl, ap₂, List, [], ◌∷◌, Bool, true, false, eqb, get_or, drop, eqb-true, eq-eqb}
 use Rattle.sums.proofs.Choices.{left, right, nth}
 use Rattle.vehicle_fields.specs.declared.units.PerMinute.{PerMinute}
 use Rattle.vehicle_fields.specs.declared.units.PerKilometre.{PerKilometre}

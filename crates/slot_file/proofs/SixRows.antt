@@ -1,10 +1,6 @@
 -- The questions of a group's coefficient links, one link after another. Assumes nothing.
-use Prim.Native.Nat.{ℕ, zero, suc, ◌+◌, ◌<◌}
-use native.Mathlib.Omega.{arith}
+use Rattle.std.proofs.Common.{ℕ, zero, suc, ◌+◌, ◌<◌, arith, add-one, ◌≡◌, List}
 use native.Mathlib.Decide.{dec_lt}
-use native.Mathlib.Numerals.{add-one}
-use mathlib.Core.Path.{◌≡◌}
-use mathlib.Core.List.{List}
 use Rattle.slot_file.specs.Questions.{coefficient_asks, rows_asks}
 use Rattle.slot_file.specs.Meaning.{AllYes, FirstNo}
 use Rattle.slot_file.proofs.Asking.{all_append, all_left, all_right, no_before, no_after}

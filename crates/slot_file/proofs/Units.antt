@@ -1,13 +1,6 @@
 -- What each source gives is a whole number of exact units, so the exact sum of a code is as many units as its terms have together, over the groups, over
 -- the store records and over the locomotives. Assumes nothing.
-use Prim.Native.Nat.{ℕ, zero, suc, ◌+◌, ◌*◌, ◌<◌}
-use native.Mathlib.Omega.{arith}
-use mathlib.Core.Path.{◌≡◌, refl}
-use mathlib.Core.Bool.{Bool, true, false}
-use mathlib.Core.List.{List, [], ◌∷◌, ◌++◌}
-use lib.Dec.{eqb, lit<}
-use lib.IntN.{ℤ}
-use lib.ListN.{get_or}
+use Rattle.std.proofs.Common.{ℕ, zero, suc, ◌+◌, ◌*◌, ◌<◌, arith, ◌≡◌, refl, Bool, true, false, List, [], ◌∷◌, ◌++◌, eqb, lit<, ℤ, get_or}
 use Rattle.sums.specs.Choice.{if_then_else, list_to}
 use Rattle.sums.specs.Fraction.{Frac, ◌over◌, whole, ◌⊙◌, ◌⊞◌, ◌≈◌, parts_of}
 use Rattle.sums.specs.Figures.{tonne_parts, gram_parts}

@@ -1,10 +1,6 @@
 -- Question 12 in other words: of an accepted file every slot from 1 up is among the sources and their coefficients, and a refusal 12 names the lowest that is not.
 -- By counting up the questions. Assumes nothing.
-use Prim.Native.Nat.{ℕ, zero, suc, ◌+◌, ◌-◌, ◌≤◌, ◌<◌}
-use mathlib.Core.Path.{◌≡◌, refl}
-use mathlib.Core.List.{List, [], ◌∷◌}
-use mathlib.Core.Bool.{true, false}
-use native.Mathlib.Omega.{arith}
+use Rattle.std.proofs.Common.{ℕ, zero, suc, ◌+◌, ◌-◌, ◌≤◌, ◌<◌, ◌≡◌, refl, List, [], ◌∷◌, true, false, arith}
 use native.Mathlib.Decide.{dec_lt}
 use Rattle.slot_file.specs.Sources.{Chains}
 use Rattle.slot_file.specs.Questions.{Question, question, slot_count, member, reached_of, reach_asks, last_asks}

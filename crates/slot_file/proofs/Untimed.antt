@@ -1,14 +1,8 @@
 -- A file with byte 36 zero in every group is answered as before warm-ups were timed, and so is every file that was accepted then. Question 9 of a group with zero
 -- there asks what 01 asks, and a slot of another kind is refused before it; so the walk is the same. And the minutes of such a group are the table's or the heated
 -- stand's. Assumes nothing.
-use Prim.Native.Nat.{ℕ, zero, suc, ◌+◌}
-use mathlib.Core.Path.{◌≡◌, refl, sym, ap, subst, ◌∙◌}
-use mathlib.Core.Bool.{Bool, true, false, ◌&&◌}
-use mathlib.Core.List.{List, [], ◌∷◌, ◌++◌}
-use lib.Dec.{leb, eqb}
-use lib.IntN.{ℤ}
-use lib.ListN.{get_or}
-use borrow.Author.Tests.{eqb-true, eqb-false}
+use Rattle.std.proofs.Common.{ℕ, zero, suc, ◌+◌, ◌≡◌, refl, sym, ap, subst, ◌∙◌, Bool, true, false, ◌&&◌, List, [], ◌∷◌, ◌++◌, leb, eqb, ℤ, get_or, eqb-true}
+use borrow.Author.Tests.{eqb-false}
 use Rattle.sums.specs.Choice.{if_then_else, all_of, list_to}
 use Rattle.sums.proofs.Choices.{left, right, nth}
 use Rattle.sums.specs.Fraction.{Frac}

@@ -1,7 +1,6 @@
 -- 01, "Surveyed examples": the starred rows, as files of bytes with what they print; locomotives by 000 and 02; timed warm-ups; and files for what 01, 02 and the
 -- letter say of refusals, of lent buffers and of two desks.
-use Rattle.std.specs.Prelude.{ℕ, ◌+◌, ◌-◌, ◌/◌, ◌%◌, ◌≡◌, eqb, pos, get_or, length, replicate}
-use mathlib.Core.List.{List, [], ◌∷◌, ◌++◌, map, flat_map}
+use Rattle.std.specs.Prelude.{ℕ, ◌+◌, ◌-◌, ◌/◌, ◌%◌, ◌≡◌, eqb, pos, get_or, length, replicate, List, [], ◌∷◌, ◌++◌, map, flat_map}
 use Prim.Native.String.{String}
 use Rattle.sums.specs.Choice.{if_then_else}
 use Rattle.sums.specs.Fraction.{Frac, ◌over◌}

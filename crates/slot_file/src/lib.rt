@@ -1,4 +1,6 @@
 // What is asked of a slot file and what it answers, as definitions (specs/) with their theorems (proofs/), and the answer's own form.
+#![tactic(auto)]
+
 ghost use Rattle.std.specs.Prelude.{◌≡◌};
 ghost use Rattle.slot_file.specs.Figures as figures;
 
