@@ -1,10 +1,6 @@
 -- Bytes after bytes: what is written in parts is written whole, and what is left to write falls to nothing.
 -- Assumes nothing.
-use Prim.Native.Nat.{ℕ, suc, ◌+◌, ◌≤◌}
-use mathlib.Core.Path.{◌≡◌, sym, ap, ◌∙◌}
-use mathlib.Core.List.{List, [], ◌∷◌, ◌++◌, append_assoc}
-use native.Mathlib.Omega.{arith}
-use lib.ListN.{length, set, length-append}
+use Rattle.std.proofs.Common.{ℕ, suc, ◌+◌, ◌≤◌, ◌≡◌, sym, ap, ◌∙◌, List, [], ◌∷◌, ◌++◌, append_assoc, arith, length, set, length-append}
 use lib.Seq.{sets}
 use Rattle.slot_file.specs.Listing.{text, decimal}
 use Rattle.listing_lines.specs.Text.{Added, pair}

@@ -1,4 +1,6 @@
 // The bytes of the listing and of the refusal line.
+#![tactic(auto)]
+
 pub mod lines;
 mod numbers;
 mod text;

@@ -1,4 +1,6 @@
 // The questions in order, of what the walk has read: of a list of them, the number and the slot of the first that is answered no, or 0 and 0.
+#![tactic(auto)]
+
 ghost use Rattle.std.specs.Prelude.{◌≡◌};
 ghost use Rattle.slot_file.specs.Questions.{question, head_asks_of};
 ghost use Rattle.questions.specs.Told.{told_by, asked, link_asked, row_asked};

@@ -1,13 +1,6 @@
 -- More at a place changes the sum there and no other; so more in a column changes the sum of one code there, and no other column. Assumes nothing.
-use Prim.Native.Nat.{ℕ, zero, suc, ◌+◌, ◌*◌, ◌<◌, ◌≤◌}
-use native.Mathlib.Omega.{arith}
-use mathlib.Core.Path.{◌≡◌, refl, ap, sym, ◌∙◌}
-use mathlib.Core.Bool.{Bool, true, false}
-use mathlib.Core.List.{List}
-use lib.Dec.{ltb, eqb}
-use lib.ListN.{get_or, set, length, length-set}
-use lib.Seq.{get_or-set_same, get_or-set_other}
-use borrow.Author.Tests.{eqb-true, eqb-false}
+use Rattle.std.proofs.Common.{ℕ, zero, suc, ◌+◌, ◌*◌, ◌<◌, ◌≤◌, arith, ◌≡◌, refl, ap, sym, ◌∙◌, Bool, true, false, List, ltb, eqb, get_or, set, length, length-set, get_or-set_same, get_or-set_other, eqb-true}
+use borrow.Author.Tests.{eqb-false}
 use Rattle.sums.specs.Choice.{if_then_else}
 use Rattle.sums.specs.Figures.{units_in, words_of}
 use Rattle.sums.specs.Answer.{no_emission}

@@ -1,12 +1,5 @@
 -- An emission adds the units of its contribution, column by column, to the sums of its code, and the emissions of a group add theirs. Assumes nothing.
-use Prim.Native.Nat.{ℕ, zero, suc, ◌+◌, ◌*◌, ◌<◌, ◌≤◌}
-use native.Mathlib.Nat.{le_refl}
-use native.Mathlib.Omega.{arith}
-use mathlib.Core.Path.{◌≡◌, refl, ap, sym, subst, ◌∙◌}
-use mathlib.Core.List.{List}
-use lib.Dec.{eqb, ltb}
-use lib.ListN.{get_or, length, replicate}
-use borrow.Author.Tests.{eq-eqb, ltb-true, ltb-false}
+use Rattle.std.proofs.Common.{ℕ, zero, suc, ◌+◌, ◌*◌, ◌<◌, ◌≤◌, le_refl, arith, ◌≡◌, refl, ap, sym, subst, ◌∙◌, List, eqb, ltb, get_or, length, replicate, eq-eqb, ltb-true, ltb-false}
 use Rattle.sums.specs.Choice.{if_then_else, sum_to, list_to}
 use Rattle.sums.specs.Fraction.{parts_of}
 use Rattle.sums.specs.Figures.{tonne_parts, gram_parts, units_in, words_of}

@@ -1,5 +1,7 @@
 // Exact sums by substance code in memory that the caller lends, and their figures. The memory has a column of sums for the year's masses and one for the peaks, a
 // sum for each of the listing's codes in its order, and a sum has two words, the low one first.
+#![tactic(auto)]
+
 ghost use Rattle.std.specs.Prelude.{◌≡◌, ◌<◌, length};
 ghost use Rattle.sums.specs.Figures.{units_in};
 ghost use Rattle.vehicles.specs.Rules.{emission_count};

@@ -1,8 +1,7 @@
 -- The last digit goes after the digits of a tenth; x falls with each call.
 use borrow.Fn.Kinds.{In}
 use borrow.Fn.PlainCycle.{Measures, is, falls, and}
-use Prim.Native.Nat.{ℕ, ◌<◌}
-use native.Mathlib.Omega.{arith}
+use Rattle.std.proofs.Common.{ℕ, ◌<◌, arith}
 use Rattle.listing_lines.proofs.Writing.{then, bounded}
 use Rattle.listing_lines.proofs.Digits.{decimal_less, decimal_more, digits_short}
 use Rattle.listing_lines.proofs.numbers.put_decimal.Reads as put-decimal
