@@ -6,7 +6,7 @@ use Rattle.listing_lines.specs.Text.{line_most}
 use Rattle.listing_lines.proofs.Writing.{Due, turn, done}
 use Rattle.listing_lines.proofs.lines.put_lines.Given as goal
 
-pub lines_from : List ℕ → List ℕ → List ℕ → ℕ → List ℕ
+unfoldable pub lines_from : List ℕ → List ℕ → List ℕ → ℕ → List ℕ
 lines_from cs annual peak i = lines (drop i cs) (drop i annual) (drop i peak)
 
 abbrev pub invariant-loop-i : goal.invariant-loop-i

@@ -10,7 +10,7 @@ loop-left-init c = (omega arith, omega arith, record { same = refl; ends = refl 
 
 pub loop-left-preserved : goal.loop-left-preserved
 loop-left-preserved c =
-    let n = c.loop-left.false in (
+    let n = c.loop-left.left in (
       omega arith,
       omega arith,
       turn c.loop-left.invariant.2 (padded_turn n (n - 1) _ c.args.x (omega arith) c.power.ensures.0) c.put_byte-at.ensures,
@@ -18,4 +18,4 @@ loop-left-preserved c =
 
 pub returns : goal.returns
 returns c =
-    (done c.loop-left.invariant.2 (padded_end c.loop-left.false c.args.x (omega arith)), omega arith)
+    (done c.loop-left.invariant.2 (padded_end c.loop-left.left c.args.x (omega arith)), omega arith)
