@@ -1,4 +1,6 @@
 // Answers as numbers in a caller's memory.
+#![tactic(auto)]
+
 pub mod giving;
 mod numbers;
 

@@ -1,4 +1,6 @@
 // What a source gives, added to a file's sums in lent memory, where they are wanted.
+#![tactic(auto)]
+
 ghost use Rattle.std.specs.Prelude.{◌≡◌};
 ghost use Rattle.vehicles.specs.Parts.{answer_in};
 ghost use Rattle.locomotives.specs.Rules.{locomotive_answer};

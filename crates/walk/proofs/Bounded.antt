@@ -1,13 +1,6 @@
 -- The sums of an accepted file stay below what a sum holds: no source gives a code more than a source's bound, a group and a locomotive with all their emissions, and there are
 -- fewer sources than slots. Assumes nothing.
-use Prim.Native.Nat.{ℕ, ◌+◌, ◌*◌, ◌<◌, ◌≤◌}
-use native.Mathlib.Omega.{arith}
-use native.Mathlib.Nat.{mul-le-mul, le_refl}
-use mathlib.Core.Path.{◌≡◌}
-use mathlib.Core.Bool.{true}
-use mathlib.Core.List.{List, [], ◌∷◌, ◌++◌}
-use lib.Dec.{eqb, lit<}
-use lib.ListN.{get_or, length, length-append}
+use Rattle.std.proofs.Common.{ℕ, ◌+◌, ◌*◌, ◌<◌, ◌≤◌, arith, mul-le-mul, le_refl, ◌≡◌, true, List, [], ◌∷◌, ◌++◌, eqb, lit<, get_or, length, length-append}
 use Rattle.sums.specs.Fraction.{Frac, parts_of}
 use Rattle.sums.specs.Answer.{Contribution}
 use Rattle.sums.proofs.Choices.{both, sum_to_share}

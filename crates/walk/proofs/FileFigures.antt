@@ -1,13 +1,7 @@
 -- The figures of a file's sums are those of its exact sums: the sums have as many exact units (`Units`), drop none (`Bounded`), and one number has one figure.
 -- Assumes nothing.
-use Prim.Native.Nat.{ℕ, ◌+◌, ◌*◌, ◌%◌, ◌^◌, ◌<◌, ◌≤◌}
-use native.Mathlib.Omega.{arith}
-use native.Mathlib.Nat.{lt_of_le_of_lt, add-le-add, le_refl}
-use mathlib.Core.Path.{◌≡◌, refl, sym, ap, ◌∙◌}
-use mathlib.Core.List.{List, [], ◌∷◌, map, reverse, reverse_aux}
-use lib.Dec.{lit<}
-use lib.ListN.{get_or}
-use borrow.Author.Tests.{eq-eqb}
+use Rattle.std.proofs.Common.{ℕ, ◌+◌, ◌*◌, ◌%◌, ◌^◌, ◌<◌, ◌≤◌, arith, lt_of_le_of_lt, add-le-add, le_refl, ◌≡◌, refl, sym, ap, ◌∙◌, List, [], ◌∷◌, map, reverse, lit<, get_or, eq-eqb}
+use mathlib.Core.List.{reverse_aux}
 use Rattle.sums.specs.Choice.{list_to}
 use Rattle.sums.specs.Fraction.{Frac, ◌over◌, whole, ◌⊙◌, ◌≈◌, parts_of}
 use Rattle.sums.specs.Figures.{annual_denominator, peak_denominator, units_in, words_of, nearest, annual_of, peak_of, annual_rounded, peak_rounded}

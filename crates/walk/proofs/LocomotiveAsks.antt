@@ -1,10 +1,5 @@
 -- All that is asked of a link to a locomotive: of the link, by what its slot reads as, and question 14. Assumes nothing.
-use Prim.Native.Nat.{ℕ, ◌≤◌}
-use mathlib.Core.Path.{◌≡◌, ap, ◌∙◌}
-use mathlib.Core.Bool.{Bool, false, ◌&&◌}
-use mathlib.Core.List.{List}
-use lib.Dec.{ltb, lit<}
-use lib.ListN.{get_or}
+use Rattle.std.proofs.Common.{ℕ, ◌≤◌, ◌≡◌, ap, ◌∙◌, Bool, false, ◌&&◌, List, ltb, lit<, get_or}
 use Rattle.sums.specs.declared.answer.Verdict.{Verdict}
 use Rattle.locomotive_fields.specs.Fields.{shares_add_up}
 use Rattle.slots.specs.Bytes.{slot_of}

@@ -1,10 +1,5 @@
 -- One source more: a link that nothing is refused of lengthens the chain, and its emissions make the sums those of the sources passed. Assumes nothing.
-use Prim.Native.Nat.{ℕ, zero, suc, ◌+◌, ◌<◌}
-use native.Mathlib.Omega.{arith}
-use mathlib.Core.Path.{◌≡◌, refl, sym, ap, subst, ◌∙◌}
-use mathlib.Core.Bool.{Bool, true}
-use mathlib.Core.List.{List, [], ◌∷◌, ◌++◌}
-use lib.ListN.{get_or, length, set, length-append}
+use Rattle.std.proofs.Common.{ℕ, zero, suc, ◌+◌, ◌<◌, arith, ◌≡◌, refl, sym, ap, subst, ◌∙◌, Bool, true, List, [], ◌∷◌, ◌++◌, get_or, length, set, length-append}
 use Rattle.sums.specs.Choice.{if_then_else, list_to}
 use Rattle.sums.proofs.Choices.{both}
 use Rattle.sums.specs.Answer.{Contribution, emitted}

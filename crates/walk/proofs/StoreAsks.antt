@@ -1,10 +1,5 @@
 -- All that is asked of a link to a store record: of the link, by what its slot reads as. Assumes nothing.
-use Prim.Native.Nat.{ℕ, ◌≤◌}
-use mathlib.Core.Path.{◌≡◌}
-use mathlib.Core.Bool.{Bool, false, ◌&&◌}
-use mathlib.Core.List.{List}
-use lib.Dec.{ltb}
-use lib.ListN.{get_or}
+use Rattle.std.proofs.Common.{ℕ, ◌≤◌, ◌≡◌, Bool, false, ◌&&◌, List, ltb, get_or}
 use Rattle.sums.specs.declared.answer.Verdict.{Verdict}
 use Rattle.slots.specs.Bytes.{slot_of, number_of}
 use Rattle.slots.specs.Layout.{store_kind, store_good}

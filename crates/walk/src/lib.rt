@@ -1,4 +1,6 @@
 // The walk over a slot file: its check, and its answer.
+#![tactic(auto)]
+
 pub mod file;
 mod group_chain;
 mod locomotive_chain;

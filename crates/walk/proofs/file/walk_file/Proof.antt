@@ -1,9 +1,5 @@
 -- Each part is told of its questions, and goes on where the part before it ended.
-use Prim.Native.Nat.{◌-◌}
-use native.Mathlib.Omega.{arith}
-use mathlib.Core.Path.{◌≡◌, refl, ◌∙◌, subst}
-use lib.Dec.{ltb}
-use lib.ListN.{length}
+use Rattle.std.proofs.Common.{◌-◌, arith, ◌≡◌, refl, ◌∙◌, subst, ltb, length}
 use Rattle.slots.specs.declared.header.Header.{Header}
 use Rattle.slot_file.specs.Questions.{slot_count, head_asks_of, head_asks, reached_of, reach_asks, last_asks}
 use Rattle.slot_file.specs.Meaning.{AllYes, FirstNo, at_head, at_last}

@@ -1,5 +1,5 @@
 -- Where they are wanted, the year's bands.
-use native.Mathlib.Omega.{arith}
+use Rattle.std.proofs.Common.{arith}
 use Rattle.walk.proofs.group_chain.climate_where.Statement.{statement}
 use Rattle.walk.proofs.group_chain.climate_where.Tie as tie
 

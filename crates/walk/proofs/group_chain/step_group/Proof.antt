@@ -1,6 +1,5 @@
 -- The questions of the link, of the coefficient links and of question 11, one after the other; the slots are marked as they are passed.
-use native.Mathlib.Omega.{arith}
-use mathlib.Core.Path.{◌≡◌, refl, ap}
+use Rattle.std.proofs.Common.{arith, ◌≡◌, refl, ap}
 use Rattle.slots.specs.Layout.{group_read}
 use Rattle.slots.specs.declared.group.GroupRead.{GroupRead}
 use Rattle.slot_file.specs.Sources.{group_at, Chains}

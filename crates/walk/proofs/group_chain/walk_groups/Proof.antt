@@ -1,12 +1,6 @@
 -- After each step the groups passed are a chain of which every question is answered yes, with its marks and its sums (`Passing`); a chain of different slots
 -- ends.
-use native.Mathlib.Omega.{arith}
-use Prim.Native.Nat.{◌-◌}
-use mathlib.Core.Path.{◌≡◌, refl, sym, ap, subst, ◌∙◌}
-use mathlib.Core.Bool.{true}
-use mathlib.Core.List.{[]}
-use lib.ListN.{length}
-use borrow.Author.Tests.{ne_eqb}
+use Rattle.std.proofs.Common.{arith, ◌-◌, ◌≡◌, refl, sym, ap, subst, ◌∙◌, true, [], length, ne_eqb}
 use Rattle.warmups.specs.Parts.{climate_of}
 use Rattle.slots.specs.declared.header.Header.{Header}
 use Rattle.slot_file.specs.Sources.{temperatures_at}

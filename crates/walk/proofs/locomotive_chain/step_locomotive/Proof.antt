@@ -1,6 +1,5 @@
 -- The questions of the link, and question 14; the slot is marked where none is answered no.
-use native.Mathlib.Omega.{arith}
-use mathlib.Core.Path.{◌≡◌, refl, ap}
+use Rattle.std.proofs.Common.{arith, ◌≡◌, refl, ap}
 use Rattle.slots.specs.Layout.{locomotive_read}
 use Rattle.slots.specs.declared.locomotive.LocomotiveRead.{LocomotiveRead}
 use Rattle.slot_file.specs.Sources.{locomotive_at, Chains}

@@ -1,6 +1,5 @@
 -- The mark of a slot that the file has, which is below the most.
-use native.Mathlib.Omega.{arith}
-use borrow.Author.Tests.{lt-ltb, le-ltb}
+use Rattle.std.proofs.Common.{arith, lt-ltb, le-ltb}
 use Rattle.walk.proofs.marks.marked.Statement.{statement}
 use Rattle.walk.proofs.marks.marked.Tie as tie
 

@@ -1,9 +1,6 @@
 -- The slots passed are all reached, so the rest is told of the whole.
 use borrow.Author.Tests.{not-true, not-false}
-use native.Mathlib.Omega.{arith}
-use Prim.Native.Nat.{ℕ, suc, ◌≤◌, ◌+◌, ◌-◌}
-use mathlib.Core.Path.{◌≡◌, refl}
-use mathlib.Core.List.{List, ◌∷◌}
+use Rattle.std.proofs.Common.{arith, ℕ, suc, ◌≤◌, ◌+◌, ◌-◌, ◌≡◌, refl, List, ◌∷◌}
 use Rattle.slot_file.specs.Questions.{question, member, reach_asks}
 use Rattle.slot_file.specs.Parts.{marks_of}
 use Rattle.questions.proofs.Telling.{marked, Rest, rest_whole, rest_on, told_here, told_all}

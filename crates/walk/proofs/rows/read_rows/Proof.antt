@@ -1,13 +1,5 @@
 -- The rows passed stand in their places, their questions are answered yes and their slots are marked.
-use borrow.Author.Rules.{rules}
-use native.Mathlib.Omega.{arith}
-use Prim.Native.Nat.{ℕ, ◌≤◌, ◌<◌, ◌-◌}
-use mathlib.Core.Path.{◌≡◌, refl, sym, ap, ◌∙◌}
-use mathlib.Core.Bool.{true}
-use mathlib.Core.List.{[], ◌∷◌}
-use native.Mathlib.Numerals.{add-one}
-use borrow.Author.Tests.{ltb-true, eq-eqb, ne_eqb}
-use lib.ListN.{get_or, set, length}
+use Rattle.std.proofs.Common.{rules, arith, ℕ, ◌≤◌, ◌<◌, ◌-◌, ◌≡◌, refl, sym, ap, ◌∙◌, true, [], ◌∷◌, add-one, ltb-true, eq-eqb, ne_eqb, get_or, set, length}
 use Rattle.sums.proofs.Choices.{filled, list_to_is}
 use Rattle.vehicle_fields.specs.Fields.{pollutant_count, no_coefficients}
 use Rattle.slots.specs.Bytes.{slot_of}

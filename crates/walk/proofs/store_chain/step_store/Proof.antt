@@ -1,6 +1,5 @@
 -- The questions of the link; the slot is marked where none is answered no.
-use native.Mathlib.Omega.{arith}
-use mathlib.Core.Path.{◌≡◌, refl, ◌∙◌}
+use Rattle.std.proofs.Common.{arith, ◌≡◌, refl, ◌∙◌}
 use Rattle.slot_file.specs.Sources.{Chains}
 use Rattle.slot_file.specs.Questions.{last_of, sources_of, store_asks}
 use Rattle.slot_file.specs.Parts.{marks_of}

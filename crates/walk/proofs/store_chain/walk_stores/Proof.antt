@@ -1,9 +1,6 @@
 -- After each step the store records passed are a chain, after the groups, of which every question is answered yes, with its marks and its sums (`Passing`); a
 -- chain of different slots ends.
-use native.Mathlib.Omega.{arith}
-use Prim.Native.Nat.{◌-◌}
-use mathlib.Core.Path.{◌≡◌, refl, sym, ap, ◌∙◌}
-use lib.ListN.{length}
+use Rattle.std.proofs.Common.{arith, ◌-◌, ◌≡◌, refl, sym, ap, ◌∙◌, length}
 use Rattle.slots.specs.declared.header.Header.{Header}
 use Rattle.slot_file.specs.Questions.{most_slots, groups_so_far, stores_so_far}
 use Rattle.slot_file.specs.Meaning.{at_store}

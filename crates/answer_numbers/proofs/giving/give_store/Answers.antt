@@ -1,0 +1,6 @@
+-- The numbers of the answer: its one emission stands first.
+use Rattle.std.proofs.Common.{arith}
+use Rattle.answer_numbers.proofs.giving.give_store.Goals as goal
+
+pub returns : goal.returns
+returns c = c.give_rule.ensures
