@@ -1,10 +1,6 @@
 -- What is written from byte 0 on is what the first bytes hold, and what a copy of them takes. Assumes nothing.
-use Prim.Native.Nat.{ℕ, ◌≤◌}
-use mathlib.Core.Path.{◌≡◌, sym, ap, ◌∙◌}
-use mathlib.Core.List.{List, ◌++◌}
-use native.Mathlib.Omega.{arith}
-use lib.ListN.{length, take, drop, length-append}
-use lib.Seq.{sets-eq, length-sets, take_at, take-length}
+use Rattle.std.proofs.Common.{ℕ, ◌≤◌, ◌≡◌, sym, ap, ◌∙◌, List, ◌++◌, arith, length, take, drop, length-append, take_at}
+use lib.Seq.{sets-eq, length-sets, take-length}
 use Rattle.listing_lines.specs.Text.{Added}
 
 -- what is written from byte 0 on
@@ -29,8 +25,8 @@ held {l} {a = a} {r} h g =
     }
 
 -- a copy of these bytes into a buffer
-pub copied : {m a x : List ℕ} {r : ℕ} (buffer : List ℕ) → Held m r a → x ≡ take (length (take r m)) (take r m) ++ drop (length (take r m)) buffer → x ≡ a ++ drop (length a) buffer
-copied {a = a} buffer h e = rw (h.bytes, take-length a) at e
+pub copied : {m a x : List ℕ} {r : ℕ} (buffer : List ℕ) → Held m r a → x ≡ take r m ++ drop (length (take r m)) buffer → x ≡ a ++ drop (length a) buffer
+copied {a = a} buffer h e = rw h.bytes at e
 
 -- what stands at the start is no longer than the whole
 pub fronted : {n : ℕ} (p d : List ℕ) {l : List ℕ} → n ≡ length p → l ≡ p ++ d → (n ≤ length l) × (n ≡ length (take n l))

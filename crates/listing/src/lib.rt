@@ -1,4 +1,6 @@
 // The answer as bytes: the listing in a lent buffer, and what the program prints.
+#![tactic(auto)]
+
 ghost use Rattle.std.specs.Prelude.{◌≡◌, ◌++◌, length, take, drop, ◌≤◌};
 ghost use Rattle.slot_file.specs.Figures.{answer};
 ghost use Rattle.slot_file.specs.Listing.{printed, listed};
@@ -11,6 +13,14 @@ use slot_file::Answer;
 pub struct Listing {
     pub answer: Answer,
     pub written: usize,
+}
+
+// Copies the bytes to the front of the buffer.
+fn copy_to_front(from: &[u8], buffer: &mut [u8])
+    requires { length from.now ≤ length buffer.old }
+    ensures { buffer.new ≡ from.now ++ drop (length from.now) buffer.old }
+{
+    buffer[..from.len()].copy_from_slice(from);
 }
 
 // The listing from byte 0 of the buffer, and its length. An answer that is a refusal stays as it is, and a buffer that is too short gives refusal 13; neither writes a byte.
@@ -31,7 +41,7 @@ fn list_answer(a: Answer, buffer: &mut [u8]) -> Listing
             written: 0,
         };
     }
-    bytes::copy(&text[..written], buffer);
+    copy_to_front(&text[..written], buffer);
     Listing { answer: a, written }
 }
 
@@ -41,7 +51,7 @@ fn print_answer(a: Answer, out: &mut [u8; LISTING_ROOM]) -> usize
 {
     let mut text = [0; LISTING_ROOM];
     let length = listing_lines::put_printed(&mut text, a);
-    bytes::copy(&text[..length], out);
+    copy_to_front(&text[..length], out);
     length
 }
 
