@@ -1,0 +1,6 @@
+-- The numbers of the rule's answer.
+use Rattle.std.proofs.Common.{arith}
+use Rattle.tezhebul.proofs.rules.tezhebul_aspiration.Goals as goal
+
+pub returns : goal.returns
+returns c = rw c.aspiration_emission.ensures at c.give_store.ensures

@@ -1,0 +1,6 @@
+-- The numbers of the rule's answer.
+use Rattle.std.proofs.Common.{arith}
+use Rattle.tezhebul.proofs.rules.tezhebul_handling.Goals as goal
+
+pub returns : goal.returns
+returns c = rw (c.handling_emission.ensures, c.bulk_of-bulk.ensures) at c.give_store.ensures
