@@ -7,8 +7,7 @@ ghost use Rattle.answer_numbers.specs.Numbers.{packed, numbers_of, answer_size, 
 ghost use Rattle.tezhebul.specs.Memory.{ListingGiven};
 
 // 0 of an accepted file, and else 65,536 times the refusal's number, plus its slot.
-#[unsafe(no_mangle)]
-pub extern "C" fn tezhebul_check(file: &[u8]) -> u32
+pub fn tezhebul_check(file: &[u8]) -> u32
     ensures { result ≡ packed (told (outcome file.now)) }
 {
     let v = walk::check(file);
@@ -16,8 +15,7 @@ pub extern "C" fn tezhebul_check(file: &[u8]) -> u32
 }
 
 // The numbers of a file's answer at the start of `out`; false, and nothing written, where it has room for fewer.
-#[unsafe(no_mangle)]
-pub extern "C" fn tezhebul_answer(file: &[u8], out: &mut [u64]) -> bool
+pub fn tezhebul_answer(file: &[u8], out: &mut [u64]) -> bool
     ensures { Given answer_size (numbers_of (answer file.now)) out.old result out.new }
 {
     answer_numbers::give_answer(walk::answer(file), out)
@@ -25,8 +23,7 @@ pub extern "C" fn tezhebul_answer(file: &[u8], out: &mut [u64]) -> bool
 
 // The listing at the start of the buffer, and its length; and in `out`, where there is room for them, the numbers of what the listing answers: those of the file, or
 // of refusal 13.
-#[unsafe(no_mangle)]
-pub extern "C" fn tezhebul_list(file: &[u8], buffer: &mut [u8], out: &mut [u64]) -> usize
+pub fn tezhebul_list(file: &[u8], buffer: &mut [u8], out: &mut [u64]) -> usize
     ensures { ListingGiven (listed (answer file.now) buffer.old) result buffer.new out.old out.new }
 {
     let listing = listing::list(file, buffer);

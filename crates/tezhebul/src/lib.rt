@@ -1,4 +1,4 @@
-// The library for tools in other languages, with a C interface: a slot file's check, answer and listing, and the rules of each kind of source.
+// The library for tools in other languages, whose C interface is the crate `tezhebul_c`: a slot file's check, answer and listing, and the rules of each kind of source.
 #![tactic(auto)]
 
 mod fields;

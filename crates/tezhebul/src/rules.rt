@@ -15,8 +15,7 @@ use vehicle_fields::Group;
 use vehicles::GroupAnswer;
 
 // The numbers of what a handling record gives at the start of `out`; false, and nothing written, where it has room for fewer.
-#[unsafe(no_mangle)]
-pub extern "C" fn tezhebul_handling(
+pub fn tezhebul_handling(
     dust: u8,
     store: u16,
     material: u8,
@@ -37,8 +36,7 @@ pub extern "C" fn tezhebul_handling(
 }
 
 // The numbers of what a standing record gives, likewise.
-#[unsafe(no_mangle)]
-pub extern "C" fn tezhebul_standing(
+pub fn tezhebul_standing(
     dust: u8,
     store: u16,
     material: u8,
@@ -59,8 +57,7 @@ pub extern "C" fn tezhebul_standing(
 }
 
 // The numbers of what an aspiration record gives, likewise.
-#[unsafe(no_mangle)]
-pub extern "C" fn tezhebul_aspiration(
+pub fn tezhebul_aspiration(
     dust: u8,
     store: u16,
     concentration: u32,
@@ -98,8 +95,7 @@ fn group_answer(flags: u8, g: Group, temperatures: &[i16], coefficients: &[u32])
 }
 
 // The numbers of what a group gives of each pollutant; false, and nothing written, also where a slice is not as long as it has to be.
-#[unsafe(no_mangle)]
-pub extern "C" fn tezhebul_group(
+pub fn tezhebul_group(
     category: u8,
     fuel: u8,
     flags: u8,
@@ -130,8 +126,7 @@ pub extern "C" fn tezhebul_group(
 }
 
 // The numbers of what a locomotive gives of each substance; false, and nothing written, where `out` has room for fewer.
-#[unsafe(no_mangle)]
-pub extern "C" fn tezhebul_locomotive(
+pub fn tezhebul_locomotive(
     model: u8,
     idle: u16,
     quarter: u16,
