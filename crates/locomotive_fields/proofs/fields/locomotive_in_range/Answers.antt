@@ -1,5 +1,4 @@
 -- The tests, that of the shares by its own promise.
-use native.Mathlib.Omega.{arith}
 use Rattle.locomotive_fields.specs.Fields.{locomotive_in_range}
 use Rattle.locomotive_fields.proofs.fields.locomotive_in_range.Goals as goal
 

@@ -1,6 +1,5 @@
 -- Five numbers of 16 bits have a sum of 32, which is tested.
 use native.Mathlib.Nat.{zero-add}
-use native.Mathlib.Omega.{arith}
 use Rattle.sums.specs.Choice.{sum_to}
 use Rattle.locomotive_fields.specs.Fields.{shares_add_up}
 use Rattle.locomotive_fields.proofs.fields.shares_add_up.Goals as goal

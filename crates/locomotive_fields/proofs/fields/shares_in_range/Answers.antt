@@ -1,5 +1,4 @@
 -- The five tests, as they stand.
-use native.Mathlib.Omega.{arith}
 use mathlib.Core.Path.{refl}
 use Rattle.sums.specs.Choice.{all_to}
 use Rattle.locomotive_fields.specs.Fields.{shares_in_range}

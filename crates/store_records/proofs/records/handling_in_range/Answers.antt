@@ -1,5 +1,4 @@
 -- The tests as they stand, the first of them the bulk's.
-use native.Mathlib.Omega.{arith}
 use Rattle.store_records.specs.Fields.{handling_in_range}
 use Rattle.store_records.proofs.records.handling_in_range.Goals as goal
 

@@ -1,5 +1,4 @@
 -- The six tests, each by its own promise.
-use Rattle.std.proofs.Common.{arith}
 use Rattle.sums.specs.Choice.{all_to}
 use Rattle.vehicle_fields.specs.Fields.{all_in_range}
 use Rattle.vehicle_fields.proofs.group.all_in_range.Goals as goal

@@ -1,5 +1,5 @@
 -- The seven tests, as they stand.
-use Rattle.std.proofs.Common.{arith, refl}
+use Rattle.std.proofs.Common.{refl}
 use Rattle.vehicle_fields.specs.SootAndLead.{all_zero}
 use Rattle.vehicle_fields.proofs.group.all_zero.Goals as goal
 

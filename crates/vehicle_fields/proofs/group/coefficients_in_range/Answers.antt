@@ -1,5 +1,5 @@
 -- The seven tests, as they stand.
-use Rattle.std.proofs.Common.{arith, refl}
+use Rattle.std.proofs.Common.{refl}
 use Rattle.vehicle_fields.specs.Fields.{coefficients_in_range}
 use Rattle.vehicle_fields.proofs.group.coefficients_in_range.Goals as goal
 

@@ -1,5 +1,5 @@
 -- The twelve tests, as they stand.
-use Rattle.std.proofs.Common.{arith, refl}
+use Rattle.std.proofs.Common.{refl}
 use Rattle.sums.specs.Choice.{all_to}
 use Rattle.vehicle_fields.specs.Fields.{days_in_range}
 use Rattle.vehicle_fields.proofs.group.days_in_range.Goals as goal

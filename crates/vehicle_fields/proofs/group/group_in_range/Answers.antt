@@ -1,5 +1,4 @@
 -- The tests, three of them by their own promises.
-use Rattle.std.proofs.Common.{arith}
 use Rattle.vehicle_fields.specs.Fields.{group_in_range}
 use Rattle.vehicle_fields.proofs.group.group_in_range.Goals as goal
 

@@ -1,5 +1,4 @@
 -- The tests, by their own promises.
-use Rattle.std.proofs.Common.{arith}
 use Rattle.vehicle_fields.specs.Fields.{source_in_range}
 use Rattle.vehicle_fields.proofs.input.source_in_range.Goals as goal
 

@@ -1,5 +1,4 @@
 -- The tests, two of them by their own promises.
-use Rattle.std.proofs.Common.{arith}
 use Rattle.vehicle_fields.specs.SootAndLead.{zero_where_due}
 use Rattle.vehicle_fields.proofs.input.zero_where_due.Goals as goal
 

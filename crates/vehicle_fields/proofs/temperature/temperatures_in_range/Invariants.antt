@@ -1,8 +1,7 @@
 -- The tests of the months passed all hold.
-use Rattle.std.proofs.Common.{rules, arith, ◌≡◌, Bool, List, ℕ, ◌≤◌, ◌-◌, ℤ, pos, get_or, w16, to_z-of_z}
+use Rattle.std.proofs.Common.{◌≡◌, Bool, List, ℕ, ◌≤◌, ◌-◌, ℤ, pos, get_or}
 use Rattle.sums.specs.Choice.{all_to}
-use Rattle.sums.proofs.Choices.{all_to_step}
-use Rattle.vehicle_fields.specs.Fields.{temperature_in_range, temperatures_in_range}
+use Rattle.vehicle_fields.specs.Fields.{temperature_in_range}
 use Rattle.vehicle_fields.proofs.temperature.temperatures_in_range.Given as goal
 
 abbrev pub test : List ℤ → ℕ → Bool

@@ -1,5 +1,4 @@
 -- By `Words::of`.
-use Rattle.std.proofs.Common.{arith}
 use Rattle.sums.proofs.annual.AnnualSum.of.Goals as goal
 
 pub returns : goal.returns

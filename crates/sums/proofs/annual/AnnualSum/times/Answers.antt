@@ -1,5 +1,4 @@
 -- By `Words::times`.
-use Rattle.std.proofs.Common.{arith}
 use Rattle.sums.proofs.annual.AnnualSum.times.Goals as goal
 
 pub returns : goal.returns

@@ -1,5 +1,4 @@
 -- Zero sums.
-use Rattle.std.proofs.Common.{arith}
 use Rattle.sums.proofs.answer.Emission.none.Goals as goal
 
 pub returns : goal.returns

@@ -1,5 +1,4 @@
 -- By `Words::plus`.
-use Rattle.std.proofs.Common.{arith}
 use Rattle.sums.proofs.peak.PeakSum.plus.Goals as goal
 
 pub returns : goal.returns

@@ -1,5 +1,4 @@
 -- By `Words::times`.
-use Rattle.std.proofs.Common.{arith}
 use Rattle.sums.proofs.peak.PeakSum.times.Goals as goal
 
 pub returns : goal.returns

@@ -1,5 +1,4 @@
 -- The low word's halves are multiplied, and what passes them is carried.
-use Rattle.std.proofs.Common.{arith}
 use Rattle.sums.specs.Figures.{units_in}
 use Rattle.sums.proofs.Carrying.{multiplied}
 use Rattle.sums.proofs.words.Words.times.Goals as goal
