@@ -1,7 +1,7 @@
 /* Tezhebul for tools in other languages: the check, the answer and the listing of an inventory slot file, and the rules of each kind of source.
    Each function is proved to do what a definition of the papers says (crates/tezhebul). A slice is a pointer and a length. A pointer is not null, also where the
    length is 0; the memory behind it is the caller's for the length of the call; and memory that is written (`buffer`, `out`) overlaps no other slice of the call.
-   What the refusal numbers and the codes of fields mean is in README.md and docs/FORMAT.md. Build the archive with `rt staticlib tezhebul`. */
+   What the refusal numbers and the codes of fields mean is in README.md and docs/FORMAT.md. Build the archive with `bash tests/build.sh tezhebul`. */
 #ifndef TEZHEBUL_H
 #define TEZHEBUL_H
 

@@ -25,8 +25,8 @@ done
 if [ "$gate" = yes ]; then
     bash .ci/run
 fi
-rt staticlib tezhebul
-rt check inventory
+bash tests/build.sh tezhebul
+bash tests/build.sh inventory
 cc -std=c11 -Wall -Wextra -Werror -Iinclude tests/interface.c target/staticlib/libtezhebul.a -o target/interface
 target/interface examples/tikhvin.slots examples/tikhvin.listing
 cargo test --release --offline --workspace --manifest-path rust/Cargo.toml

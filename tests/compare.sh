@@ -4,5 +4,5 @@
 # The cases are records as in crates/file_cases/stdin, by a path from the root of the repository.
 set -eu
 cd "$(dirname "$0")/.."
-rt staticlib tezhebul
+bash tests/build.sh tezhebul
 cargo run --release --offline --manifest-path rust/Cargo.toml -p compare -- "$@"

@@ -1,4 +1,4 @@
-//! Links the archive that `rt staticlib tezhebul` writes.
+//! Links the archive that `bash tests/build.sh tezhebul` writes.
 
 use std::path::Path;
 
@@ -9,7 +9,7 @@ fn main() {
     println!("cargo:rerun-if-changed={}", archive.display());
     if !archive.is_file() {
         eprintln!(
-            "target/staticlib/libtezhebul.a is missing: run rt staticlib tezhebul first, \
+            "target/staticlib/libtezhebul.a is missing: run bash tests/build.sh tezhebul first, \
              from the root of the repository"
         );
         std::process::exit(1);

@@ -1,6 +1,6 @@
 -- What is written from byte 0 on is what the first bytes hold, and what a copy of them takes. Assumes nothing.
 use Rattle.std.proofs.Common.{ℕ, ◌≤◌, ◌≡◌, sym, ap, ◌∙◌, List, ◌++◌, arith, length, take, drop, length-append, take_at}
-use lib.Seq.{sets-eq, length-sets, take-length}
+use lib.Seq.{sets-eq, length-sets}
 use Rattle.listing_lines.specs.Text.{Added}
 
 -- what is written from byte 0 on

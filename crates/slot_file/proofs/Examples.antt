@@ -1,7 +1,7 @@
 -- Two rows of the tables of examples, B's answer in a lent buffer and two alike files of store records, computed from the definitions as a whole: what refuses a wrong
 -- definition of the listing, of a link's holder and of files that are alike where it stands. The tables are computed whole in the crate `surveyed`. And questions 7 and
 -- 14 in other words. Assumes nothing.
-use Rattle.std.proofs.Common.{ℕ, ◌≡◌, refl, List, flat_map}
+use Rattle.std.proofs.Common.{ℕ, ◌≡◌, refl, List}
 use Rattle.sums.specs.Choice.{if_then_else, all_to, list_to}
 use Rattle.sums.specs.Figures.{nearest}
 use Rattle.vehicle_fields.specs.Fields.{temperatures_in_range, distances_in_range, days_in_range, group_in_range, coefficients_in_range}

@@ -1,6 +1,6 @@
 -- The letter's two desks: two pairs of different files that are accepted and alike, one with groups and one of locomotives alone (one of store records is computed in
 -- `slot_file`). Computed, from the definitions as a whole. Assumes nothing.
-use Rattle.std.proofs.Common.{refl, flat_map}
+use Rattle.std.proofs.Common.{refl}
 use Rattle.sums.specs.Choice.{if_then_else, all_to, sum_to, list_to}
 use Rattle.vehicle_fields.specs.Fields.{temperatures_in_range, distances_in_range, days_in_range, group_in_range, coefficients_in_range}
 use Rattle.vehicle_fields.specs.SootAndLead.{all_zero, zero_where_due}

@@ -1,6 +1,6 @@
 -- 01's STARRED ROWS, by one claim over one table; locomotives and timed warm-ups by hand; a file for each refusal; and B's answer in a lent buffer. Computed, from the
 -- definitions as a whole. What is lent a buffer goes by B's answer, which is computed once. Assumes nothing.
-use Rattle.std.proofs.Common.{◌≡◌, refl, flat_map}
+use Rattle.std.proofs.Common.{◌≡◌, refl}
 use mathlib.Core.Path.{subst⁻¹}
 use Rattle.sums.specs.Choice.{if_then_else, all_to, sum_to, list_to}
 use Rattle.sums.specs.Fraction.{total_to, parts_of}

@@ -21,7 +21,7 @@ use Rattle.warmups.specs.Warmup.{times_of, tenths_in, period_at, minutes_at}
 use Rattle.warmups.specs.Parts.{climate_of, period_in, conditions_in}
 use Rattle.warmups.specs.declared.warmup.Conditions.{Conditions}
 use Rattle.warmups.proofs.Decided.{period_same, band_at}
-use Rattle.vehicles.specs.Rules.{run_and_idle, out_grams, in_grams, month_grams, annual_tonnes, peak_grams, percent_of, control_of, contribution_by, contribution_of, emission_of, emission_count, emissions_of, group_answer}
+use Rattle.vehicles.specs.Rules.{run_and_idle, out_grams, in_grams, month_grams, annual_tonnes, peak_grams, percent_of, control_of, contribution_by, emission_of, emission_count, emissions_of, group_answer}
 use Rattle.vehicles.specs.Parts.{distance_sum, month_period, month_warmup, month_run, month_idle, activity_of, run_and_idle_parts, mass_parts, out_parts, year_parts, year_units, peak_units, emission_parts, emissions_in, answer_in}
 use Rattle.vehicles.proofs.Ranges.{in_range_is}
 use Rattle.vehicles.proofs.Periods.{by_months}

@@ -1,5 +1,5 @@
 -- The listing of the file's answer.
-use Rattle.std.proofs.Common.{arith, ap, ◌∙◌}
+use Rattle.std.proofs.Common.{ap, ◌∙◌}
 use Rattle.slot_file.specs.Listing.{listed}
 use Rattle.slot_file.specs.declared.Answer.{Answer}
 use Rattle.listing.proofs.list.Goals as goal

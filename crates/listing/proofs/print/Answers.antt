@@ -1,5 +1,4 @@
 -- What is printed of the file's answer.
-use Rattle.std.proofs.Common.{arith}
 use Rattle.slot_file.specs.Figures.{answer}
 use Rattle.slot_file.specs.Listing.{printed}
 use Rattle.listing.proofs.Copying.{fronted}

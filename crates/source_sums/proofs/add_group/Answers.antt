@@ -1,5 +1,5 @@
 -- The emissions of the group's rule, where sums are wanted.
-use Rattle.std.proofs.Common.{arith, refl, ap, ◌∙◌}
+use Rattle.std.proofs.Common.{refl, ap, ◌∙◌}
 use Rattle.sums.proofs.Choices.{yes, no}
 use Rattle.vehicles.specs.Rules.{emission_count}
 use Rattle.vehicles.specs.declared.rule.GroupAnswer.{GroupAnswer}

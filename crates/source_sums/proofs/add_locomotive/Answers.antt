@@ -1,5 +1,5 @@
 -- The emissions of the locomotive's rule one by one, where sums are wanted.
-use Rattle.std.proofs.Common.{arith, ℕ, refl, ap, ◌∙◌, List, get_or}
+use Rattle.std.proofs.Common.{ℕ, refl, ap, ◌∙◌, List, get_or}
 use Rattle.sums.specs.Figures.{words_of}
 use Rattle.sums.specs.Answer.{no_emission}
 use Rattle.sums.proofs.Choices.{yes, no}

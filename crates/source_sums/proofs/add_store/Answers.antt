@@ -1,5 +1,5 @@
 -- What the record gives, where sums are wanted.
-use Rattle.std.proofs.Common.{arith, refl, ap, ◌∙◌}
+use Rattle.std.proofs.Common.{refl, ap, ◌∙◌}
 use Rattle.sums.proofs.Choices.{yes, no}
 use Rattle.totals.specs.Totals.{plus_in}
 use Rattle.source_sums.specs.Added.{plus_store}

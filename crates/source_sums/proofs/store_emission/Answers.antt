@@ -1,5 +1,5 @@
 -- What the record gives, where there is one.
-use Rattle.std.proofs.Common.{arith, sym, ap, ◌∙◌}
+use Rattle.std.proofs.Common.{sym, ap, ◌∙◌}
 use Rattle.source_sums.specs.Added.{store_emission}
 use Rattle.source_sums.proofs.store_emission.Goals as goal
 

@@ -1,5 +1,5 @@
 -- The emissions passed are added.
-use Rattle.std.proofs.Common.{rules, arith, add-one, ◌≡◌, ◌∙◌, ◌≤◌, ◌-◌, length}
+use Rattle.std.proofs.Common.{rules, arith, add-one, ◌≡◌, ◌∙◌}
 use Rattle.sums.specs.Figures.{words_of}
 use Rattle.vehicles.specs.Rules.{emission_count}
 use Rattle.totals.specs.Totals.{plus_to_in}

@@ -1,6 +1,5 @@
 -- The emissions passed are added.
-use Rattle.std.proofs.Common.{rules, arith, add-one, ◌≡◌, ◌∙◌, ◌≤◌, ◌-◌, length}
-use Rattle.sums.specs.Figures.{words_of}
+use Rattle.std.proofs.Common.{◌≡◌, ◌≤◌, ◌-◌, length}
 use Rattle.vehicles.specs.Rules.{emission_count}
 use Rattle.totals.specs.Totals.{plus_to_in}
 use Rattle.totals.proofs.add_all.Given as goal

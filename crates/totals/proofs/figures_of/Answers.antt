@@ -1,5 +1,5 @@
 -- The figures of the places passed stand in their places.
-use Rattle.std.proofs.Common.{arith, ◌≡◌, refl, ap, ◌∙◌, ℕ, ◌≤◌, ◌<◌, ◌-◌, ◌%◌, ◌^◌, get_or, length, length-set}
+use Rattle.std.proofs.Common.{arith, ◌≡◌, refl, ap, ◌∙◌, ◌%◌, ◌^◌, length-set}
 use Rattle.sums.specs.Figures.{annual_rounded, peak_rounded}
 use Rattle.sums.specs.declared.words.Words.{Words}
 use Rattle.sums.proofs.Choices.{filled, list_to_is}

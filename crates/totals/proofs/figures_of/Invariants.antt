@@ -1,10 +1,7 @@
 -- The figures of the places passed stand in their places.
-use Rattle.std.proofs.Common.{arith, ◌≡◌, refl, ap, ◌∙◌, ℕ, ◌≤◌, ◌<◌, ◌-◌, ◌%◌, ◌^◌, get_or, length, length-set}
-use Rattle.sums.specs.Figures.{annual_rounded, peak_rounded}
-use Rattle.sums.specs.declared.words.Words.{Words}
-use Rattle.sums.proofs.Choices.{filled, list_to_is}
+use Rattle.std.proofs.Common.{◌≡◌, ℕ, ◌≤◌, ◌<◌, ◌-◌, get_or, length}
 use Rattle.slot_file.specs.Codes.{code_count}
-use Rattle.totals.specs.Totals.{annual_in, peak_in, figures_of}
+use Rattle.totals.specs.Totals.{annual_in, peak_in}
 use Rattle.totals.proofs.figures_of.Given as goal
 
 abbrev pub invariant-loop-i : goal.invariant-loop-i

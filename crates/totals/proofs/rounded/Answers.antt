@@ -1,5 +1,5 @@
 -- The figures of memory that has the sums, and of no other.
-use Rattle.std.proofs.Common.{arith, eq-eqb, ne_eqb, refl}
+use Rattle.std.proofs.Common.{eq-eqb, ne_eqb, refl}
 use Rattle.sums.proofs.Choices.{yes, no}
 use Rattle.totals.specs.Totals.{figures_in}
 use Rattle.totals.proofs.rounded.Goals as goal

@@ -1,5 +1,5 @@
 -- The numbers of the answer: its three emissions stand first.
-use Rattle.std.proofs.Common.{arith, ℕ, ◌≡◌, refl, sym, ap, ◌∙◌, List, get_or, length}
+use Rattle.std.proofs.Common.{ℕ, ◌≡◌, refl, sym, ap, ◌∙◌, List, get_or, length}
 use Rattle.sums.specs.Choice.{list_to}
 use Rattle.sums.specs.Answer.{no_emission}
 use Rattle.sums.specs.Figures.{words_of}

@@ -1,5 +1,4 @@
 -- The numbers of the answer: its one emission stands first.
-use Rattle.std.proofs.Common.{arith}
 use Rattle.answer_numbers.proofs.giving.give_store.Goals as goal
 
 pub returns : goal.returns

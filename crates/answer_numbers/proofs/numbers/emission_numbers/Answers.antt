@@ -1,5 +1,4 @@
 -- Both sums in printed units.
-use Rattle.std.proofs.Common.{arith}
 use Rattle.answer_numbers.proofs.numbers.emission_numbers.Goals as goal
 
 pub returns : goal.returns

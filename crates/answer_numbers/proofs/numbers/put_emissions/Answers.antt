@@ -1,10 +1,10 @@
 -- The numbers of the emissions that are left, from here on, make the whole.
-use Rattle.std.proofs.Common.{arith, add-one, ℕ, ◌+◌, ◌*◌, ◌<◌, ◌≤◌, ◌-◌, ◌≡◌, refl, ap, ◌∙◌, List, ◌++◌, get_or, length, take, drop, drop_of_length-le, drop-cons, get_or-take, length-take-le}
+use Rattle.std.proofs.Common.{arith, add-one, ℕ, ◌+◌, ◌*◌, ◌<◌, ◌≤◌, ◌≡◌, refl, ap, ◌∙◌, List, ◌++◌, get_or, length, take, drop_of_length-le, drop-cons, get_or-take, length-take-le}
 use lib.Seq.{sets}
 use Rattle.sums.specs.Answer.{no_emission}
 use Rattle.sums.specs.Figures.{words_of}
 use Rattle.sums.specs.declared.answer.Emission.{Emission}
-use Rattle.listing_lines.proofs.Writing.{Due, turn, done}
+use Rattle.listing_lines.proofs.Writing.{turn, done}
 use Rattle.answer_numbers.specs.Numbers.{emission_numbers, emission_size, emissions_numbers}
 use Rattle.answer_numbers.proofs.numbers.put_emissions.Invariants.{left}
 use Rattle.answer_numbers.proofs.numbers.put_emissions.Goals as goal

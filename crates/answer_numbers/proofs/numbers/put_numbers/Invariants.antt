@@ -1,5 +1,5 @@
 -- The numbers that are left, from here on, make the whole.
-use Rattle.std.proofs.Common.{rules, arith, add-one, add-zero, add-suc, ◌+◌, ◌≤◌, ◌-◌, ◌≡◌, refl, sym, ap, ◌∙◌, length, drop, drop_of_length-le, drop-cons}
+use Rattle.std.proofs.Common.{◌+◌, ◌≤◌, ◌-◌, ◌≡◌, length, drop}
 use lib.Seq.{sets}
 use Rattle.answer_numbers.proofs.numbers.put_numbers.Given as goal
 

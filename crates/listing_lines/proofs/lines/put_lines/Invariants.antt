@@ -1,9 +1,9 @@
 -- The lines from the next code on are what is due.
-use Rattle.std.proofs.Common.{add-zero, arith, add-one, ◌≡◌, refl, List, ◌++◌, ℕ, ◌+◌, ◌-◌, ◌*◌, ◌<◌, ◌≤◌, length, drop, get_or, drop-cons, get_or-drop, drop-drop}
+use Rattle.std.proofs.Common.{List, ℕ, ◌+◌, ◌-◌, ◌*◌, ◌≤◌, drop}
 use Rattle.slot_file.specs.Codes.{codes, code_count}
-use Rattle.slot_file.specs.Listing.{line, lines}
+use Rattle.slot_file.specs.Listing.{lines}
 use Rattle.listing_lines.specs.Text.{line_most}
-use Rattle.listing_lines.proofs.Writing.{Due, turn, done}
+use Rattle.listing_lines.proofs.Writing.{Due}
 use Rattle.listing_lines.proofs.lines.put_lines.Given as goal
 
 unfoldable pub lines_from : List ℕ → List ℕ → List ℕ → ℕ → List ℕ

@@ -1,5 +1,5 @@
 -- By the answer's number.
-use Rattle.std.proofs.Common.{arith, eq-eqb, ne_eqb}
+use Rattle.std.proofs.Common.{eq-eqb, ne_eqb}
 use Rattle.sums.specs.Choice.{if_then_else}
 use Rattle.slot_file.specs.Listing.{printed}
 use Rattle.listing_lines.proofs.lines.put_printed.Goals as goal

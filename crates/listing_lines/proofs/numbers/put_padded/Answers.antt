@@ -1,7 +1,6 @@
 -- The digits from the next one on are what is due.
-use Rattle.std.proofs.Common.{arith, ◌≡◌, refl, ◌+◌, ◌-◌, ◌≤◌}
-use Rattle.slot_file.specs.Listing.{padded}
-use Rattle.listing_lines.proofs.Writing.{Due, turn, done}
+use Rattle.std.proofs.Common.{arith, refl, ◌-◌}
+use Rattle.listing_lines.proofs.Writing.{turn, done}
 use Rattle.listing_lines.proofs.Digits.{padded_turn, padded_end}
 use Rattle.listing_lines.proofs.numbers.put_padded.Goals as goal
 

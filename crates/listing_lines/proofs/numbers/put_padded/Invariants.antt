@@ -1,8 +1,7 @@
 -- The digits from the next one on are what is due.
-use Rattle.std.proofs.Common.{arith, ◌≡◌, refl, ◌+◌, ◌-◌, ◌≤◌}
+use Rattle.std.proofs.Common.{◌≡◌, ◌+◌, ◌≤◌}
 use Rattle.slot_file.specs.Listing.{padded}
-use Rattle.listing_lines.proofs.Writing.{Due, turn, done}
-use Rattle.listing_lines.proofs.Digits.{padded_turn, padded_end}
+use Rattle.listing_lines.proofs.Writing.{Due}
 use Rattle.listing_lines.proofs.numbers.put_padded.Given as goal
 
 abbrev pub invariant-loop-left : goal.invariant-loop-left

@@ -1,6 +1,6 @@
 -- The bytes not yet passed are what is due.
-use Rattle.std.proofs.Common.{arith, add-one, ◌≡◌, refl, ◌+◌, ◌-◌, ◌<◌, ◌≤◌, length, drop, drop_of_length-le, drop-cons}
-use Rattle.listing_lines.proofs.Writing.{Due, turn, done}
+use Rattle.std.proofs.Common.{arith, add-one, refl, ◌<◌, length, drop_of_length-le, drop-cons}
+use Rattle.listing_lines.proofs.Writing.{turn, done}
 use Rattle.listing_lines.proofs.text.put_text.Goals as goal
 
 pub loop-i-init : goal.loop-i-init

@@ -1,6 +1,6 @@
 -- The bytes not yet passed are what is due.
-use Rattle.std.proofs.Common.{arith, add-one, ◌≡◌, refl, ◌+◌, ◌-◌, ◌<◌, ◌≤◌, length, drop, drop_of_length-le, drop-cons}
-use Rattle.listing_lines.proofs.Writing.{Due, turn, done}
+use Rattle.std.proofs.Common.{◌≡◌, ◌+◌, ◌-◌, ◌≤◌, length, drop}
+use Rattle.listing_lines.proofs.Writing.{Due}
 use Rattle.listing_lines.proofs.text.put_text.Given as goal
 
 abbrev pub invariant-loop-i : goal.invariant-loop-i

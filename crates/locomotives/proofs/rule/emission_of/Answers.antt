@@ -1,5 +1,4 @@
 -- The product fits by the bounds of the mean and the hours.
-use Rattle.std.proofs.Common.{arith}
 use mir.Facts.{Fits-below}
 use Rattle.sums.proofs.Products.{◌⊗◌}
 use Rattle.sums.proofs.Wrapping.{words_times}

@@ -1,5 +1,5 @@
 -- Each product fits by the bounds of its factors, and the last is the definition.
-use Rattle.std.proofs.Common.{le_refl, arith}
+use Rattle.std.proofs.Common.{le_refl}
 use mir.Facts.{Fits-below}
 use Rattle.sums.proofs.Products.{◌⊗◌}
 use Rattle.locomotives.specs.Parts.{hour_parts}

@@ -1,5 +1,5 @@
 -- The two tests choose the answer.
-use Rattle.std.proofs.Common.{arith, ◌∙◌, sym}
+use Rattle.std.proofs.Common.{◌∙◌, sym}
 use Rattle.sums.proofs.Choices.{yes, no}
 use Rattle.locomotives.specs.Rules.{locomotive_answer}
 use Rattle.locomotives.proofs.rule.locomotive_emissions.Goals as goal

@@ -1,8 +1,8 @@
 -- The modes are those passed.
-use Rattle.std.proofs.Common.{arith, ◌≡◌, refl, ◌≤◌, ◌-◌}
+use Rattle.std.proofs.Common.{arith, ◌≡◌, refl}
 use Rattle.sums.specs.Choice.{sum_to}
 use Rattle.locomotive_fields.specs.Fields.{mode_count}
-use Rattle.locomotives.specs.Parts.{mean_parts, greatest_parts, all_modes}
+use Rattle.locomotives.specs.Parts.{mean_parts, greatest_parts}
 use Rattle.locomotives.proofs.Ranges.{ranged}
 use Rattle.locomotives.proofs.rule.modes_of.Goals as goal
 

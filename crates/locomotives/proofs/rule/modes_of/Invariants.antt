@@ -1,9 +1,7 @@
 -- The modes are those passed.
-use Rattle.std.proofs.Common.{arith, ◌≡◌, refl, ◌≤◌, ◌-◌}
-use Rattle.sums.specs.Choice.{sum_to}
+use Rattle.std.proofs.Common.{◌≡◌, ◌≤◌, ◌-◌}
 use Rattle.locomotive_fields.specs.Fields.{mode_count}
-use Rattle.locomotives.specs.Parts.{mean_parts, greatest_parts, all_modes}
-use Rattle.locomotives.proofs.Ranges.{ranged}
+use Rattle.locomotives.specs.Parts.{all_modes}
 use Rattle.locomotives.proofs.rule.modes_of.Given as goal
 
 abbrev pub invariant-loop-k : goal.invariant-loop-k

@@ -1,5 +1,4 @@
 -- The tests, by their own promises.
-use Rattle.std.proofs.Common.{arith}
 use Rattle.slots.specs.Layout.{coefficients_good}
 use Rattle.slots.proofs.coefficients.coefficients_good.Goals as goal
 

@@ -1,5 +1,4 @@
 -- The fields, as they are read.
-use Rattle.std.proofs.Common.{arith}
 use Rattle.slots.specs.Layout.{coefficients_of}
 use Rattle.slots.proofs.coefficients.coefficients_of.Goals as goal
 

@@ -1,5 +1,4 @@
 -- Two numbers.
-use Rattle.std.proofs.Common.{arith}
 use Rattle.slots.specs.Layout.{distances_at}
 use Rattle.slots.proofs.group.distances_at.Goals as goal
 

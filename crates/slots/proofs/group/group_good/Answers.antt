@@ -1,5 +1,4 @@
 -- The tests, by their own promises.
-use Rattle.std.proofs.Common.{arith}
 use Rattle.slots.specs.Layout.{group_good}
 use Rattle.slots.proofs.group.group_good.Goals as goal
 

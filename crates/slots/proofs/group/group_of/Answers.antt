@@ -1,5 +1,5 @@
 -- The fields, as they are read.
-use Rattle.std.proofs.Common.{arith, ◌/◌, ◌%◌, eqb}
+use Rattle.std.proofs.Common.{◌/◌, ◌%◌, eqb}
 use Rattle.slots.specs.Bytes.{byte_at}
 use Rattle.slots.specs.Layout.{group_of}
 use Rattle.slots.proofs.group.group_of.Goals as goal

@@ -1,5 +1,5 @@
 -- The fields of the slot and the number, as they are read.
-use Rattle.std.proofs.Common.{arith, rules}
+use Rattle.std.proofs.Common.{rules}
 use Rattle.slots.specs.Layout.{group_read}
 use Rattle.slots.proofs.group.read_group.Goals as goal
 

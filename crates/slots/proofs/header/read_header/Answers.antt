@@ -1,5 +1,5 @@
 -- The fields of slot 0, as they are read.
-use Rattle.std.proofs.Common.{arith, rules}
+use Rattle.std.proofs.Common.{rules}
 use Rattle.slots.specs.Layout.{header_of}
 use Rattle.slots.proofs.header.read_header.Goals as goal
 

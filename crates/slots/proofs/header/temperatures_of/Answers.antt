@@ -1,5 +1,4 @@
 -- Twelve signed numbers, each read back from its bits.
-use Rattle.std.proofs.Common.{arith}
 use borrow.Author.Rules.{sfits_of}
 use Rattle.sums.specs.Choice.{list_to}
 use Rattle.slots.specs.Layout.{temperatures_of}

@@ -1,5 +1,4 @@
 -- The fields, as they are read.
-use Rattle.std.proofs.Common.{arith}
 use Rattle.slots.specs.Layout.{locomotive_of}
 use Rattle.slots.proofs.locomotive.locomotive_of.Goals as goal
 

@@ -1,5 +1,4 @@
 -- Five numbers, as they are read.
-use Rattle.std.proofs.Common.{arith}
 use Rattle.sums.specs.Choice.{list_to}
 use Rattle.slots.specs.Layout.{shares_of}
 use Rattle.slots.proofs.locomotive.shares_of.Goals as goal

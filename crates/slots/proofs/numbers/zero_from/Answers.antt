@@ -1,5 +1,5 @@
 -- The bytes passed are all zero.
-use Rattle.std.proofs.Common.{rules, arith, ◌≡◌, ◌≤◌, ◌-◌, add-one}
+use Rattle.std.proofs.Common.{rules, arith, ◌≡◌, add-one}
 use Rattle.slots.specs.Bytes.{zero_from}
 use Rattle.slots.proofs.numbers.zero_from.Goals as goal
 

@@ -1,5 +1,5 @@
 -- The read of the slot.
-use Rattle.std.proofs.Common.{arith, rules, ap, ◌∙◌}
+use Rattle.std.proofs.Common.{rules, ap, ◌∙◌}
 use Rattle.slots.specs.Layout.{next_of}
 use Rattle.slots.proofs.slot.next_of.Goals as goal
 

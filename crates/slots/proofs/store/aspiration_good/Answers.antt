@@ -1,5 +1,4 @@
 -- The tests, by their own promises.
-use Rattle.std.proofs.Common.{arith}
 use Rattle.slots.specs.Layout.{aspiration_good}
 use Rattle.slots.proofs.store.aspiration_good.Goals as goal
 

@@ -1,5 +1,5 @@
 -- The record where its tests hold, else out of range.
-use Rattle.std.proofs.Common.{arith, ◌∙◌, sym, refl}
+use Rattle.std.proofs.Common.{◌∙◌, sym, refl}
 use Rattle.sums.proofs.Choices.{yes, no}
 use Rattle.slots.specs.Layout.{read_by}
 use Rattle.slots.proofs.store.read_handling.Goals as goal

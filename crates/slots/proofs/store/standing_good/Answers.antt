@@ -1,5 +1,4 @@
 -- The tests, by their own promises.
-use Rattle.std.proofs.Common.{arith}
 use Rattle.slots.specs.Layout.{standing_good}
 use Rattle.slots.proofs.store.standing_good.Goals as goal
 

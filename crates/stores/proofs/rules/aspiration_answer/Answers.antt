@@ -1,5 +1,4 @@
 -- A multiple of a sum is the sum of the multiple.
-use Rattle.std.proofs.Common.{arith}
 use Rattle.sums.proofs.Wrapping.{words_times}
 use Rattle.stores.proofs.rules.aspiration_answer.Goals as goal
 

@@ -1,5 +1,5 @@
 -- The ranges of the factors keep each product in 64 bits.
-use Rattle.std.proofs.Common.{arith, sub-le, refl}
+use Rattle.std.proofs.Common.{sub-le, refl}
 use mir.Facts.{Fits-below}
 use Rattle.sums.proofs.Products.{◌⊗◌}
 use Rattle.stores.specs.Parts.{aspiration_parts}

@@ -1,5 +1,4 @@
 -- Each factor is its table's, and their bounds keep each product in 64 bits.
-use Rattle.std.proofs.Common.{arith}
 use mir.Facts.{Fits-below}
 use Rattle.sums.proofs.Products.{◌⊗◌}
 use Rattle.stores.specs.Parts.{exposure_parts}

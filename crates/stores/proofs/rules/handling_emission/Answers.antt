@@ -1,5 +1,5 @@
 -- In range, the sums of the parts are those of the fractions.
-use Rattle.std.proofs.Common.{arith, sym, ◌∙◌}
+use Rattle.std.proofs.Common.{sym, ◌∙◌}
 use Rattle.sums.proofs.Choices.{yes, no}
 use Rattle.stores.specs.Rules.{handling_answer}
 use Rattle.stores.proofs.Ranges.{handling}

@@ -1,5 +1,5 @@
 -- Each factor is its table's, and their bounds keep each product in 64 bits.
-use Rattle.std.proofs.Common.{arith, le_refl}
+use Rattle.std.proofs.Common.{le_refl}
 use mir.Facts.{Fits-below}
 use Rattle.sums.proofs.Products.{◌⊗◌}
 use Rattle.stores.specs.Parts.{handling_parts}

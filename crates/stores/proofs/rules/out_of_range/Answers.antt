@@ -1,5 +1,4 @@
 -- No emission.
-use native.Mathlib.Omega.{arith}
 use Rattle.stores.proofs.rules.out_of_range.Goals as goal
 
 pub returns : goal.returns

@@ -1,5 +1,4 @@
 -- The code of the dust.
-use Rattle.std.proofs.Common.{arith}
 use Rattle.stores.proofs.rules.store_answer.Goals as goal
 
 pub returns : goal.returns

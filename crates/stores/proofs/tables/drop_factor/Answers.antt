@@ -1,5 +1,5 @@
 -- The entry by number is the table's, in whole parts.
-use Rattle.std.proofs.Common.{arith, ◌-◌}
+use Rattle.std.proofs.Common.{◌-◌}
 use Rattle.sums.specs.Fraction.{parts_of}
 use Rattle.sums.proofs.Tables.{scaled_at, met}
 use Rattle.stores.specs.Rules.{drop_table}

@@ -1,5 +1,5 @@
 -- A list of twelve is its twelve elements.
-use Rattle.std.proofs.Common.{arith, ℕ, refl, sym, get_or}
+use Rattle.std.proofs.Common.{ℕ, refl, sym, get_or}
 use Rattle.sums.specs.Choice.{list_to}
 use Rattle.sums.proofs.Choices.{list_to_is}
 use Rattle.tezhebul.proofs.fields.days_of.Goals as goal

@@ -1,5 +1,4 @@
 -- The fields, as they are handed over.
-use Rattle.std.proofs.Common.{arith}
 use Rattle.tezhebul.proofs.fields.group_of.Goals as goal
 
 pub returns : goal.returns

@@ -1,5 +1,4 @@
 -- The rows, each read from its place.
-use Rattle.std.proofs.Common.{arith}
 use Rattle.sums.specs.Choice.{list_to}
 use Rattle.tezhebul.specs.Fields.{rows_of}
 use Rattle.tezhebul.proofs.fields.rows_of.Goals as goal

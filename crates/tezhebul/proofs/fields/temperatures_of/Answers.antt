@@ -1,5 +1,5 @@
 -- The temperatures of the months passed stand in their places.
-use Rattle.std.proofs.Common.{rules, arith, ℕ, ◌≤◌, ◌<◌, ◌-◌, ◌≡◌, to_z-of_z, w16, pos, get_or, length, ext_get_or}
+use Rattle.std.proofs.Common.{rules, arith, ℕ, to_z-of_z, w16, pos, get_or, ext_get_or}
 use Rattle.sums.proofs.Choices.{filled}
 use Rattle.tezhebul.proofs.fields.temperatures_of.Goals as goal
 

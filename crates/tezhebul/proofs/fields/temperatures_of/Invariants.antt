@@ -1,7 +1,5 @@
 -- The temperatures of the months passed stand in their places.
-use Rattle.std.proofs.Common.{rules, arith, ℕ, ◌≤◌, ◌<◌, ◌-◌, ◌≡◌, to_z-of_z, pos, get_or, length, ext_get_or}
-use borrow.Author.Rules.{sfits_of}
-use Rattle.sums.proofs.Choices.{filled}
+use Rattle.std.proofs.Common.{ℕ, ◌≤◌, ◌<◌, ◌-◌, ◌≡◌, pos, get_or, length}
 use Rattle.tezhebul.proofs.fields.temperatures_of.Given as goal
 
 abbrev pub invariant-loop-m : goal.invariant-loop-m

@@ -1,5 +1,4 @@
 -- The numbers of the file's answer.
-use Rattle.std.proofs.Common.{arith}
 use Rattle.tezhebul.proofs.files.tezhebul_answer.Goals as goal
 
 pub returns : goal.returns

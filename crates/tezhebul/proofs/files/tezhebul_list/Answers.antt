@@ -1,5 +1,5 @@
 -- The listing, and the numbers of what it answers.
-use Rattle.std.proofs.Common.{arith, ap, ◌∙◌}
+use Rattle.std.proofs.Common.{ap, ◌∙◌}
 use Rattle.slot_file.specs.Listing.{Listed}
 use Rattle.answer_numbers.specs.Numbers.{numbers_of, into}
 use Rattle.tezhebul.proofs.files.tezhebul_list.Goals as goal

@@ -1,5 +1,5 @@
 -- The test of the flags chooses.
-use Rattle.std.proofs.Common.{arith, ◌∙◌, le-leb}
+use Rattle.std.proofs.Common.{◌∙◌, le-leb}
 use borrow.Author.Tests.{lt-leb}
 use Rattle.sums.proofs.Choices.{yes, no}
 use Rattle.vehicles.specs.Rules.{group_answer}

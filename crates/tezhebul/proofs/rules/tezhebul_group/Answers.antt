@@ -1,5 +1,5 @@
 -- The lengths choose; where they are right, the numbers of the rule's answer.
-use Rattle.std.proofs.Common.{arith, eqb-true, ℕ, ◌*◌, ◌≡◌, refl, sym, ◌∙◌, true, List, ℤ, length}
+use Rattle.std.proofs.Common.{eqb-true, ℕ, ◌*◌, ◌≡◌, refl, sym, ◌∙◌, true, List, ℤ, length}
 use Rattle.sums.specs.Choice.{if_then_else}
 use Rattle.sums.proofs.Choices.{nth}
 use Rattle.vehicle_fields.specs.Fields.{pollutant_count}

@@ -1,5 +1,4 @@
 -- The numbers of the rule's answer.
-use Rattle.std.proofs.Common.{arith}
 use Rattle.tezhebul.proofs.rules.tezhebul_standing.Goals as goal
 
 pub returns : goal.returns

@@ -1,5 +1,5 @@
 -- The totals are those of the months passed, each month in its own period.
-use Rattle.std.proofs.Common.{arith, ◌≡◌, refl, ap, ◌∙◌, ℕ, ◌≤◌, ◌<◌, ◌-◌, get_or, length, length-set}
+use Rattle.std.proofs.Common.{arith, ◌≡◌, refl, ap, ◌∙◌, ℕ, get_or, length-set}
 use Rattle.sums.specs.Choice.{sum_to}
 use Rattle.sums.proofs.Choices.{sum_to_step, sum_to_bound, list_to_is}
 use Rattle.warmups.specs.Parts.{tenths, conditions_in}

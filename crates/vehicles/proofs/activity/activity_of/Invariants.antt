@@ -1,12 +1,8 @@
 -- The totals are those of the months passed, each month in its own period.
-use Rattle.std.proofs.Common.{arith, ◌≡◌, refl, ap, ◌∙◌, ℕ, ◌≤◌, ◌<◌, ◌-◌, get_or, length, length-set}
+use Rattle.std.proofs.Common.{◌≡◌, ℕ, ◌≤◌, ◌<◌, ◌-◌, get_or, length}
 use Rattle.sums.specs.Choice.{sum_to}
-use Rattle.sums.proofs.Choices.{sum_to_step, sum_to_bound, list_to_is}
-use Rattle.warmups.specs.Parts.{tenths, conditions_in}
-use Rattle.warmups.proofs.Decided.{conditions_in_range}
-use Rattle.vehicles.specs.Parts.{metres, month_warmup, month_run, month_idle, in_period, activity_of}
-use Rattle.vehicles.proofs.Ranges.{ranged, three}
-use Rattle.vehicles.proofs.Periods.{added, alone, day_run_lem, warmup_most, run_most, idle_most}
+use Rattle.warmups.specs.Parts.{tenths}
+use Rattle.vehicles.specs.Parts.{metres, month_warmup, month_run, month_idle, in_period}
 use Rattle.vehicles.proofs.activity.activity_of.Given as goal
 
 abbrev pub invariant-loop-i : goal.invariant-loop-i

@@ -1,5 +1,5 @@
 -- The entry of the fuel's row, where control is done.
-use Rattle.std.proofs.Common.{arith, refl, eq-eqb, ne_eqb}
+use Rattle.std.proofs.Common.{refl, eq-eqb, ne_eqb}
 use Rattle.sums.proofs.Choices.{yes, no}
 use Rattle.vehicles.specs.Rules.{percent_of}
 use Rattle.vehicles.proofs.control.control_of.Goals as goal

@@ -1,6 +1,4 @@
 -- The control factor is at most 100 percent, and the year and the trip out have their bounds; the calls together are the definition.
-use Rattle.std.proofs.Common.{arith, ◌≤◌}
-use Rattle.vehicles.specs.Rules.{percent_of}
 use Rattle.vehicles.specs.Parts.{emission_parts}
 use Rattle.vehicles.proofs.Ranges.{control_most}
 use Rattle.vehicles.proofs.Bounds.{out_most, year_most}

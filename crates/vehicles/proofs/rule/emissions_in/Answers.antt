@@ -1,5 +1,5 @@
 -- The emissions of the places passed stand in their places.
-use Rattle.std.proofs.Common.{arith, ◌≡◌, refl, ap, ◌∙◌, List, ℕ, ◌≤◌, ◌<◌, ◌-◌, get_or, length, length-set}
+use Rattle.std.proofs.Common.{arith, ◌≡◌, refl, ap, ◌∙◌, List, ℕ, get_or, length-set}
 use Rattle.sums.specs.Answer.{no_emission}
 use Rattle.sums.proofs.Choices.{filled, list_to_is}
 use Rattle.vehicle_fields.specs.Fields.{no_coefficients}

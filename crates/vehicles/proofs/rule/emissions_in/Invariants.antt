@@ -1,15 +1,9 @@
 -- The emissions of the places passed stand in their places.
-use Rattle.std.proofs.Common.{arith, ◌≡◌, refl, ap, ◌∙◌, List, ℕ, ◌≤◌, ◌<◌, ◌-◌, get_or, length, length-set}
+use Rattle.std.proofs.Common.{◌≡◌, ℕ, ◌≤◌, ◌<◌, ◌-◌, get_or, length}
 use Rattle.sums.specs.Answer.{no_emission}
-use Rattle.sums.proofs.Choices.{filled, list_to_is}
 use Rattle.vehicle_fields.specs.Fields.{no_coefficients}
-use Rattle.warmups.specs.Warmup.{times_of}
-use Rattle.warmups.specs.Parts.{conditions_in, TimesInRange}
-use Rattle.warmups.proofs.Decided.{times_in_range, conditions_in_range}
 use Rattle.vehicles.specs.Rules.{emission_count}
-use Rattle.vehicles.specs.Parts.{activity_of, emission_parts, emissions_in}
-use Rattle.vehicles.proofs.Ranges.{ranged, of_six}
-use Rattle.vehicles.proofs.Periods.{activity_in_range}
+use Rattle.vehicles.specs.Parts.{emission_parts}
 use Rattle.vehicles.proofs.rule.emissions_in.Given as goal
 
 abbrev pub invariant-loop-p : goal.invariant-loop-p

@@ -1,7 +1,6 @@
 -- The two tests choose the answer; a group in range, with the standard factors, has what the emissions ask.
-use Rattle.std.proofs.Common.{arith, ◌≡◌, ◌∙◌, sym, true}
+use Rattle.std.proofs.Common.{◌∙◌, sym}
 use Rattle.sums.proofs.Choices.{yes, no}
-use Rattle.vehicle_fields.specs.Fields.{source_in_range}
 use Rattle.vehicle_factors.proofs.Standard.{standard_in_range}
 use Rattle.vehicles.specs.Parts.{answer_in}
 use Rattle.vehicles.proofs.Ranges.{source_in_range_lem}

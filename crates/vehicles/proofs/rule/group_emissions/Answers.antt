@@ -1,5 +1,5 @@
 -- The answer in the climate of temperatures in range; out of range, 9.
-use Rattle.std.proofs.Common.{arith, ◌∙◌, sym, ap, ◌&&◌}
+use Rattle.std.proofs.Common.{◌∙◌, sym, ap, ◌&&◌}
 use Rattle.sums.proofs.Choices.{no}
 use Rattle.vehicle_fields.specs.Fields.{source_in_range}
 use Rattle.vehicles.specs.Rules.{group_answer}

@@ -1,5 +1,5 @@
 -- A peak fits a word.
-use Rattle.std.proofs.Common.{le_refl, arith, ◌∙◌}
+use Rattle.std.proofs.Common.{le_refl, ◌∙◌}
 use mir.Facts.{Fits-below}
 use Rattle.sums.proofs.Products.{◌⊗◌}
 use Rattle.vehicles.proofs.Ranges.{ranged}

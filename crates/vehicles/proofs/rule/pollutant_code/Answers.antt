@@ -1,5 +1,5 @@
 -- The row of the fuel.
-use Rattle.std.proofs.Common.{arith, refl, eq-eqb, ne_eqb}
+use Rattle.std.proofs.Common.{refl, eq-eqb, ne_eqb}
 use Rattle.sums.proofs.Choices.{yes, no}
 use Rattle.vehicles.specs.Rules.{pollutant_code}
 use Rattle.vehicles.proofs.rule.pollutant_code.Goals as goal

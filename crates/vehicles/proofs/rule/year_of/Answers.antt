@@ -1,5 +1,5 @@
 -- What is in range has the bounds that the mass asks; the calls together are the definition.
-use Rattle.std.proofs.Common.{rules, arith}
+use Rattle.std.proofs.Common.{rules}
 use Rattle.vehicles.specs.Parts.{year_parts}
 use Rattle.vehicles.proofs.Ranges.{ranged}
 use Rattle.vehicles.proofs.Periods.{warmup_parts_lem, run_parts_lem, idle_parts}

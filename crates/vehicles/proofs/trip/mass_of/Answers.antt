@@ -1,5 +1,4 @@
 -- One percentage after the other.
-use Rattle.std.proofs.Common.{arith}
 use Rattle.vehicles.specs.Parts.{mass_parts}
 use Rattle.vehicles.proofs.trip.mass_of.Goals as goal
 

@@ -1,5 +1,5 @@
 -- A refused walk is answered its refusal; the sums of an accepted file have the figures of its exact sums (`FileFigures`), and its counts are the chains' lengths.
-use Rattle.std.proofs.Common.{arith, refl, sym, ◌∙◌}
+use Rattle.std.proofs.Common.{refl, sym, ◌∙◌}
 use Rattle.slot_file.specs.Questions.{accepted, refused}
 use Rattle.slot_file.specs.Figures.{summed}
 use Rattle.slot_file.proofs.Outcomes.{only}

@@ -1,5 +1,5 @@
 -- The walk means what the outcome means, and only one outcome does (`Outcomes.only`).
-use Rattle.std.proofs.Common.{arith, sym, ap}
+use Rattle.std.proofs.Common.{sym, ap}
 use Rattle.slot_file.specs.Questions.{Outcome, accepted, refused}
 use Rattle.slot_file.specs.Walk.{told}
 use Rattle.slot_file.proofs.Outcomes.{only}

@@ -1,5 +1,5 @@
 -- Each part is told of its questions, and goes on where the part before it ended.
-use Rattle.std.proofs.Common.{◌-◌, arith, ◌≡◌, refl, ◌∙◌, subst, ltb, List, ℕ}
+use Rattle.std.proofs.Common.{◌-◌, ◌≡◌, refl, subst, ltb, List, ℕ}
 use Rattle.slots.specs.declared.header.Header.{Header}
 use Rattle.questions.specs.Told.{told_by}
 use Rattle.sums.specs.declared.answer.Verdict.{Verdict}

@@ -1,12 +1,9 @@
 -- The questions of the link, of the coefficient links and of question 11, one after the other; the slots are marked as they are passed.
-use Rattle.std.proofs.Common.{arith, ◌≡◌, refl, ap}
+use Rattle.std.proofs.Common.{arith, refl, ap}
 use Rattle.slots.specs.Layout.{group_read}
 use Rattle.slots.specs.declared.group.GroupRead.{GroupRead}
 use Rattle.slot_file.specs.Sources.{group_at, Chains}
 use Rattle.walk.proofs.GroupAsks.{group_link_told, link_refused, eleven_told}
-use Rattle.slot_file.specs.Questions.{last_of, sources_of, group_link_asks}
-use Rattle.slot_file.specs.Parts.{marks_of}
-use Rattle.questions.specs.Told.{Told}
 use Rattle.questions.proofs.Telling.{asked_zero, link_below}
 use Rattle.walk.proofs.group_chain.step_group.Goals as goal
 

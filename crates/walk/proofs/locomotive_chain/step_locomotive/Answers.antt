@@ -1,11 +1,8 @@
 -- The questions of the link, and question 14; the slot is marked where none is answered no.
-use Rattle.std.proofs.Common.{arith, ◌≡◌, refl, ap}
+use Rattle.std.proofs.Common.{arith, refl, ap}
 use Rattle.slots.specs.Layout.{locomotive_read}
 use Rattle.slots.specs.declared.locomotive.LocomotiveRead.{LocomotiveRead}
-use Rattle.slot_file.specs.Sources.{locomotive_at, Chains}
-use Rattle.slot_file.specs.Questions.{last_of, sources_of, locomotive_asks}
-use Rattle.slot_file.specs.Parts.{marks_of}
-use Rattle.questions.specs.Told.{Told}
+use Rattle.slot_file.specs.Sources.{locomotive_at}
 use Rattle.questions.proofs.Telling.{asked_zero, link_below}
 use Rattle.walk.proofs.LocomotiveAsks.{locomotive_told}
 use Rattle.walk.proofs.locomotive_chain.step_locomotive.Goals as goal

@@ -1,5 +1,5 @@
 -- The mark of a slot that the file has, which is below the most.
-use Rattle.std.proofs.Common.{arith, lt-ltb, le-ltb}
+use Rattle.std.proofs.Common.{lt-ltb, le-ltb}
 use Rattle.walk.proofs.marks.marked.Goals as goal
 
 pub returns-then-k-file : goal.returns-then-k-file

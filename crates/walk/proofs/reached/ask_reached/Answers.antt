@@ -1,8 +1,7 @@
 -- The slots passed are all reached, so the rest is told of the whole.
-use Rattle.std.proofs.Common.{arith, ℕ, suc, ◌≤◌, ◌+◌, ◌-◌, ◌≡◌, refl, List, ◌∷◌}
+use Rattle.std.proofs.Common.{arith, ℕ, suc, ◌+◌, ◌-◌, ◌≡◌, refl, List, ◌∷◌}
 use Rattle.slot_file.specs.Questions.{question, member, reach_asks}
-use Rattle.slot_file.specs.Parts.{marks_of}
-use Rattle.questions.proofs.Telling.{marked, Rest, rest_whole, rest_on, told_here, told_all}
+use Rattle.questions.proofs.Telling.{marked, rest_whole, rest_on, told_here, told_all}
 use Rattle.walk.proofs.reached.ask_reached.Goals as goal
 
 -- the questions of one slot more

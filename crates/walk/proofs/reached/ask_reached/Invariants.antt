@@ -1,8 +1,8 @@
 -- The slots passed are all reached, so the rest is told of the whole.
-use Rattle.std.proofs.Common.{arith, ℕ, suc, ◌≤◌, ◌+◌, ◌-◌, ◌≡◌, refl, List, ◌∷◌}
-use Rattle.slot_file.specs.Questions.{question, member, reach_asks}
+use Rattle.std.proofs.Common.{ℕ, ◌≤◌, ◌-◌, ◌≡◌, List}
+use Rattle.slot_file.specs.Questions.{reach_asks}
 use Rattle.slot_file.specs.Parts.{marks_of}
-use Rattle.questions.proofs.Telling.{marked, Rest, rest_whole, rest_on, told_here, told_all}
+use Rattle.questions.proofs.Telling.{Rest}
 use Rattle.walk.proofs.reached.ask_reached.Given as goal
 
 abbrev pub invariant-loop-i : goal.invariant-loop-i

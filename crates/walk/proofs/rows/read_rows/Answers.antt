@@ -1,5 +1,5 @@
 -- The rows passed stand in their places, their questions are answered yes and their slots are marked.
-use Rattle.std.proofs.Common.{rules, arith, ℕ, ◌≤◌, ◌<◌, ◌-◌, ◌≡◌, refl, sym, ap, ◌∙◌, true, [], ◌∷◌, add-one, ltb-true, eq-eqb, ne_eqb, get_or, set, length}
+use Rattle.std.proofs.Common.{rules, arith, ℕ, ◌-◌, ◌≡◌, refl, sym, ap, ◌∙◌, true, [], ◌∷◌, add-one, ltb-true, eq-eqb, ne_eqb, set}
 use Rattle.sums.proofs.Choices.{filled, list_to_is}
 use Rattle.vehicle_fields.specs.Fields.{pollutant_count, no_coefficients}
 use Rattle.slots.specs.Bytes.{slot_of}
@@ -7,7 +7,7 @@ use Rattle.slots.specs.Layout.{coefficients_read}
 use Rattle.slots.specs.declared.coefficients.CoefficientsRead.{CoefficientsRead}
 use Rattle.slot_file.specs.Sources.{coefficient_slot, group_at}
 use Rattle.slot_file.specs.Questions.{slot_count, coefficient_holder, coefficient_asks, rows_asks, after_sixth}
-use Rattle.slot_file.specs.Meaning.{AllYes, here}
+use Rattle.slot_file.specs.Meaning.{here}
 use Rattle.walk.specs.Rows.{marks_to}
 use Rattle.questions.proofs.Telling.{told_no, told_yes, row_told}
 use Rattle.slot_file.proofs.Asking.{all_append, no_before, no_after}

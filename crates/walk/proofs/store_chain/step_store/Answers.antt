@@ -1,9 +1,5 @@
 -- The questions of the link; the slot is marked where none is answered no.
-use Rattle.std.proofs.Common.{arith, ◌≡◌, refl, ◌∙◌}
-use Rattle.slot_file.specs.Sources.{Chains}
-use Rattle.slot_file.specs.Questions.{last_of, sources_of, store_asks}
-use Rattle.slot_file.specs.Parts.{marks_of}
-use Rattle.questions.specs.Told.{Told}
+use Rattle.std.proofs.Common.{arith, refl, ◌∙◌}
 use Rattle.questions.proofs.Telling.{link_below}
 use Rattle.walk.proofs.StoreAsks.{store_told}
 use Rattle.walk.proofs.store_chain.step_store.Goals as goal

@@ -1,11 +1,10 @@
 -- After each step the store records passed are a chain, after the groups, of which every question is answered yes, with its marks and its sums (`Passing`); a
 -- chain of different slots ends.
-use Rattle.std.proofs.Common.{arith, ◌-◌, ◌≡◌, refl, sym, ap, ◌∙◌, length}
+use Rattle.std.proofs.Common.{arith, refl, sym, ap, ◌∙◌}
 use Rattle.slots.specs.declared.header.Header.{Header}
-use Rattle.slot_file.specs.Questions.{most_slots, groups_so_far, stores_so_far}
+use Rattle.slot_file.specs.Questions.{groups_so_far, stores_so_far}
 use Rattle.slot_file.specs.Meaning.{at_store}
 use Rattle.slot_file.proofs.Outcomes.{bytes_most}
-use Rattle.walk.specs.Walked.{StoresPassed}
 use Rattle.walk.proofs.Passing.{walk_refused, walk_ended, stores_few, ended, store_passed}
 use Rattle.walk.proofs.store_chain.walk_stores.Goals as goal
 

@@ -1,8 +1,6 @@
 -- The bands of the months passed stand in their places.
-use Rattle.std.proofs.Common.{arith, ◌≡◌, refl, ap, ◌∙◌, ℕ, ◌≤◌, ◌<◌, ◌-◌, pos, get_or, length, length-set, w16, to_z-of_z}
-use Rattle.sums.proofs.Choices.{filled, list_to_is}
+use Rattle.std.proofs.Common.{◌≡◌, ℕ, ◌≤◌, ◌<◌, ◌-◌, pos, get_or, length}
 use Rattle.warmups.specs.Temperatures.{warmup_band}
-use Rattle.warmups.specs.Parts.{climate_of}
 use Rattle.warmups.proofs.climate.climate_of.Given as goal
 
 abbrev pub invariant-loop-i : goal.invariant-loop-i

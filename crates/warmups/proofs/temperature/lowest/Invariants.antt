@@ -1,5 +1,5 @@
 -- The least so far is the lowest of the months passed.
-use Rattle.std.proofs.Common.{arith, ◌≡◌, ◌∙◌, ◌≤◌, ◌-◌, add-one, pos, get_or}
+use Rattle.std.proofs.Common.{◌≡◌, ◌≤◌, ◌-◌}
 use Rattle.warmups.specs.Temperatures.{lowest_to}
 use Rattle.warmups.proofs.temperature.lowest.Given as goal
 

@@ -1,5 +1,4 @@
 -- Its period, which is one of three, and its minutes.
-use Rattle.std.proofs.Common.{arith}
 use Rattle.warmups.specs.Parts.{conditions_in}
 use Rattle.warmups.proofs.Decided.{period_below}
 use Rattle.warmups.proofs.warmup.conditions_in.Goals as goal

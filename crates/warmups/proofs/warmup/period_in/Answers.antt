@@ -1,5 +1,5 @@
 -- A heated stand is warm all year, another has the period of the band.
-use Rattle.std.proofs.Common.{arith, refl}
+use Rattle.std.proofs.Common.{refl}
 use Rattle.sums.proofs.Choices.{yes, no}
 use Rattle.warmups.specs.Parts.{period_in}
 use Rattle.warmups.proofs.warmup.period_in.Goals as goal

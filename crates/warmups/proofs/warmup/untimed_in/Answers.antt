@@ -1,5 +1,5 @@
 -- A heated stand has 15 tenths, another what its row says.
-use Rattle.std.proofs.Common.{arith, refl, ap}
+use Rattle.std.proofs.Common.{refl, ap}
 use Rattle.sums.proofs.Choices.{yes, no}
 use Rattle.warmups.specs.Warmup.{untimed_in}
 use Rattle.warmups.specs.Parts.{tenths}

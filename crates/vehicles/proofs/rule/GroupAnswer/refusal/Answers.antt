@@ -1,5 +1,4 @@
 -- Emissions of nothing.
-use Rattle.std.proofs.Common.{arith}
 use Rattle.vehicles.proofs.rule.GroupAnswer.refusal.Goals as goal
 
 pub returns : goal.returns
