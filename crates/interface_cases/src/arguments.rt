@@ -35,20 +35,16 @@ fn signed(x: u16) -> i16 {
 pub(crate) fn u32s_at(all: &[u8; ROOM], at: usize, to: &mut [u32])
     requires { at + 4 * length to.old ≤ 65536 }
 {
-    let mut i = 0;
-    while i < to.len() {
+    for i in 0..to.len() {
         to[i] = u32_at(all, at + 4 * i);
-        i += 1;
     }
 }
 
 pub(crate) fn i16s_at(all: &[u8; ROOM], at: usize, to: &mut [i16])
     requires { at + 2 * length to.old ≤ 65536 }
 {
-    let mut i = 0;
-    while i < to.len() {
+    for i in 0..to.len() {
         to[i] = signed(u16_at(all, at + 2 * i));
-        i += 1;
     }
 }
 

@@ -16,14 +16,17 @@
 // all 600 bytes, each of them `~` beforehand. So it is seen too what a call leaves as it was. A case that is cut off ends the run.
 //
 // tests/interface_cases.py writes the cases, and works out what must be printed.
+#![tactic(auto)]
+
 mod arguments;
 mod calls;
 mod printing;
 
 use arguments::{Head, ROOM};
+use std::io::{Read, Stdin, Stdout};
 
 // Lends the front of both memories to the call, and prints them whole after it.
-fn run(head: Head, all: &[u8; ROOM]) {
+fn run(out: &mut Stdout, head: Head, all: &[u8; ROOM]) {
     let lent = head.numbers;
     let lent_bytes = head.bytes;
     let mut memory = [7_777; 40];
@@ -32,52 +35,49 @@ fn run(head: Head, all: &[u8; ROOM]) {
     let bytes: &mut [u8] = &mut buffer;
     if lent <= numbers.len() {
         if lent_bytes <= bytes.len() {
-            printing::number(calls::call(
-                head,
-                all,
-                &mut bytes[0..lent_bytes],
-                &mut numbers[0..lent],
-            ));
+            printing::number(
+                out,
+                calls::call(head, all, &mut bytes[0..lent_bytes], &mut numbers[0..lent]),
+            );
         }
     }
-    printing::numbers(numbers);
+    printing::numbers(out, numbers);
     if head.function == 3 {
-        printing::bytes(bytes);
+        printing::bytes(out, bytes);
     }
 }
 
 // Whether the first n bytes of the room were there.
-fn read_front(room: &mut [u8], n: usize) -> bool {
+fn read_front(input: &mut Stdin, room: &mut [u8], n: usize) -> bool {
     if n <= room.len() {
-        return io::read_full(0, &mut room[0..n]) == n;
+        return input.read_exact(&mut room[0..n]).is_ok();
     }
     false
 }
 
 // Whether a whole case was there.
-fn next_case() -> bool {
+fn next_case(input: &mut Stdin, out: &mut Stdout) -> bool {
     let mut head = [0; 44];
     let mut all = [0; ROOM];
-    if io::read_full(0, &mut head) < 44 {
+    if input.read_exact(&mut head).is_err() {
         return false;
     }
     let h = arguments::head_of(&head);
-    if !read_front(&mut all, h.length) {
+    if !read_front(input, &mut all, h.length) {
         return false;
     }
-    printing::label(&head);
-    run(h, &all);
+    printing::label(out, &head);
+    run(out, h, &all);
     true
 }
 
-// Nothing says that the input ends, so the turns are counted down, from a number that no run uses
-// up.
-fn main() {
-    let mut turns = u64::MAX;
-    while turns > 0 {
-        if !next_case() {
+// Nothing says that the input ends, so the cases are counted, up to a number that no run reaches.
+fn main(rt: HostRuntime) {
+    let mut input = rt.stdin();
+    let mut out = rt.stdout();
+    for _ in 0..u64::MAX {
+        if !next_case(&mut input, &mut out) {
             return;
         }
-        turns -= 1;
     }
 }

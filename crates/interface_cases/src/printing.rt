@@ -1,35 +1,38 @@
-// What a call left, on standard output.
+// What a call left, on standard output. What can't be written is left out, and the rest is printed all the same.
+use std::io::{Stdout, Write};
+
+fn text(out: &mut Stdout, s: &[u8]) {
+    let _ = out.write_all(s);
+}
 
 // The head's first 32 bytes.
-pub(crate) fn label(head: &[u8; 44]) {
-    front(head, 32);
+pub(crate) fn label(out: &mut Stdout, head: &[u8; 44]) {
+    front(out, head, 32);
 }
 
-fn front(s: &[u8], n: usize) {
+fn front(out: &mut Stdout, s: &[u8], n: usize) {
     if n <= s.len() {
-        io::write_all(1, &s[0..n]);
+        text(out, &s[0..n]);
     }
 }
 
-fn line_end() {
-    io::write_all(1, b"\n");
+fn line_end(out: &mut Stdout) {
+    text(out, b"\n");
 }
 
-pub(crate) fn number(n: u64) {
-    io::write_all(1, b" ");
-    io::print_decimal(1, n);
+pub(crate) fn number(out: &mut Stdout, n: u64) {
+    text(out, b" ");
+    let _ = streams::put_number(out, n);
 }
 
-pub(crate) fn numbers(all: &[u64]) {
-    let mut i = 0;
-    while i < all.len() {
-        number(all[i]);
-        i += 1;
+pub(crate) fn numbers(out: &mut Stdout, all: &[u64]) {
+    for n in all {
+        number(out, *n);
     }
-    line_end();
+    line_end(out);
 }
 
-pub(crate) fn bytes(all: &[u8]) {
-    io::write_all(1, all);
-    line_end();
+pub(crate) fn bytes(out: &mut Stdout, all: &[u8]) {
+    text(out, all);
+    line_end(out);
 }

@@ -1,31 +1,57 @@
 // Prints the listing of the inventory file on standard input, or its refusal line.
+#![tactic(auto)]
 
-// Prints the listing of a file, or its refusal line. Where it can't be written whole, standard error says so, unless the system ends the program first, as it does
-// where nobody reads a pipe any more.
-fn show(file: &[u8]) {
-    let mut out = [0; listing_lines::LISTING_ROOM];
-    let length = listing::print(file, &mut out);
-    if !io::write_all(1, &out[..length]) {
-        os::fail(b"inventory: standard output");
-    }
-}
+ghost use Rattle.std.specs.Prelude.{◌≤◌, OnOk, length};
+ghost use Rattle.std.specs.Io.KnownBytes.{Appends};
+ghost use Rattle.slot_file.specs.Figures.{answer};
+ghost use Rattle.slot_file.specs.Listing.{printed};
+ghost use Rattle.inventory.specs.Input.{IsTaken};
+
+use listing_lines::LISTING_ROOM;
+use std::env::{Env, FillError};
+use std::io;
+use std::io::{Read, Write};
 
 // One byte more than the longest inventory file.
 const ROOM: usize = slots::SLOT_SIZE * slot_file::MOST_SLOTS + 1;
 
-// The file comes by standard input: an argument is not read, and standard error says so. An input that is longer than any inventory file fills the room, and is refused by its length with the rest unread. After the last byte a
-// further read tells the end of the input from a failure; an input that was not read to its end counts as empty, since a part of a file is no file.
-fn main() {
-    if 1 < os::arg_count() {
-        io::write_all(2, b"inventory: reads standard input: inventory < FILE\n");
+fn is_argument_given(rt: &impl Env) -> bool {
+    let mut start = [0; 1];
+    !matches!(rt.arg(1, &mut start), Err(FillError::NotPresent))
+}
+
+// How many bytes the file has, which then stand at the start of the room. An input that is longer than any inventory file fills the room, and is refused by its length
+// with the rest unread. One that was not read to its end counts as empty, since a part of a file is no file; standard error says why.
+fn read_file<R: Read>(input: &mut R, rt: &impl Eprint, room: &mut [u8]) -> usize
+    ensures bound { result ≤ length room.new }
+    ensures taken { IsTaken (R.remaining input.old) (R.remaining input.new) room.new result }
+{
+    match streams::read_full(input, room) {
+        Ok(n) => n,
+        Err(e) => {
+            let _ = eprintln!(rt; "inventory: standard input: {e}");
+            0
+        }
+    }
+}
+
+// Writes the listing of a file, or its refusal line.
+fn show<W: Write>(out: &mut W, file: &[u8]) -> io::Result<()>
+    ensures { OnOk result (Appends (W.contents out.old) (W.contents out.new) (printed (answer file.now))) }
+{
+    let mut text = [0; LISTING_ROOM];
+    let length = listing::print(file, &mut text);
+    out.write_all(&text[..length])
+}
+
+// The file comes by standard input: an argument is not read, and standard error says so. It says too where the listing can't be written whole.
+fn main(rt: HostRuntime) {
+    if is_argument_given(&rt) {
+        let _ = eprintln!(rt; "inventory: reads standard input: inventory < FILE");
     }
     let mut room = [0; ROOM];
-    let mut spare = [0; 1];
-    let n = io::read_full(0, &mut room);
-    if n == ROOM || libc::read(0, &mut spare) == 0 {
-        show(&room[..n]);
-    } else {
-        os::fail(b"inventory: standard input");
-        show(&spare[..0]);
+    let n = read_file(&mut rt.stdin(), &rt, &mut room);
+    if let Err(e) = show(&mut rt.stdout(), &room[..n]) {
+        let _ = eprintln!(rt; "inventory: standard output: {e}");
     }
 }

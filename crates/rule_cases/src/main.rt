@@ -26,12 +26,15 @@
 //
 // tests/rule_cases.py writes the cases, and works out what must be printed. The run takes more steps
 // than the interpreter of `rt try` allows; compiled it takes a moment.
+#![tactic(auto)]
+
 mod case;
 mod fields;
 mod numbers;
 mod printing;
 mod totals;
 
+use std::io::{Read, Stdin, Stdout};
 use sums::Emission;
 use vehicles::EMISSIONS;
 
@@ -42,40 +45,38 @@ struct Step {
     totals: [Emission; EMISSIONS],
 }
 
-fn next_case(totals: [Emission; EMISSIONS]) -> Step {
+fn next_case(input: &mut Stdin, out: &mut Stdout, totals: [Emission; EMISSIONS]) -> Step {
     let mut record = [0u8; 320];
-    let n = io::read_full(0, &mut record);
-    if n < 320 {
+    if input.read_exact(&mut record).is_err() {
         return Step {
             more: false,
             totals,
         };
     }
-    let added = case::run(&record);
+    let added = case::run(out, &record);
     Step {
         more: true,
         totals: totals::joined(totals, added),
     }
 }
 
-// Nothing says that the input ends, so the turns are counted down, from a number that no run uses
-// up.
-fn run_all() -> [Emission; EMISSIONS] {
+// Nothing says that the input ends, so the cases are counted, up to a number that no run reaches.
+fn run_all(input: &mut Stdin, out: &mut Stdout) -> [Emission; EMISSIONS] {
     let mut totals = totals::zero();
-    let mut turns = u64::MAX;
-    while turns > 0 {
-        let s = next_case(totals);
+    for _ in 0..u64::MAX {
+        let s = next_case(input, out, totals);
         if !s.more {
             return totals;
         }
         totals = s.totals;
-        turns -= 1;
     }
     totals
 }
 
-fn main() {
-    let totals = run_all();
-    io::write_all(1, b"totals\n");
-    printing::all_sums(totals);
+fn main(rt: HostRuntime) {
+    let mut input = rt.stdin();
+    let mut out = rt.stdout();
+    let totals = run_all(&mut input, &mut out);
+    printing::text(&mut out, b"totals\n");
+    printing::all_sums(&mut out, totals);
 }

@@ -49,11 +49,9 @@ pub(crate) fn joined(a: [Emission; EMISSIONS], b: [Emission; EMISSIONS]) -> [Emi
 
 pub(crate) fn repeated(six: [Emission; EMISSIONS], times: u16) -> [Emission; EMISSIONS] {
     let mut total = zero();
-    let mut left = times;
-    while left > 0 {
+    for _ in 0..times {
         let more = joined(total, six);
         total = more;
-        left -= 1;
     }
     total
 }
