@@ -15,7 +15,7 @@ use std::io::{Read, Write};
 // One byte more than the longest inventory file.
 const ROOM: usize = slots::SLOT_SIZE * slot_file::MOST_SLOTS + 1;
 
-fn is_argument_given(rt: &impl Env) -> bool {
+fn is_argument_given(rt: &HostRuntime) -> bool {
     let mut start = [0; 1];
     !matches!(rt.arg(1, &mut start), Err(FillError::NotPresent))
 }

@@ -47,6 +47,7 @@ fn with_rate(m: Modes, rate: u64, share: u16) -> Modes
 }
 
 // One mode more of each substance; without a share it adds nothing.
+#[tactic(auto, using(crate::proofs::Modes::without_share))]
 fn with_mode(l: Locomotive, rates: [u64; RATES], m: AllModes, k: usize) -> AllModes
     requires { (locomotive_in_range l ≡ true) × (rates ≡ hourly_of l.model) × (m ≡ all_modes l k) × (k < mode_count) }
     ensures { result ≡ all_modes l (k + 1) }
@@ -136,6 +137,7 @@ impl LocomotiveAnswer {
     }
 }
 
+#[tactic(auto, unfolding(crate::specs::Rules::locomotive_answer, sums::specs::Choice::if_then_else))]
 pub fn locomotive_emissions(l: Locomotive) -> LocomotiveAnswer
     ensures { result ≡ locomotive_answer l }
 {

@@ -25,6 +25,7 @@ fn refuse(number: u8, slot: u16) -> Verdict
 const MOST_BYTES: usize = SLOT_SIZE * MOST_SLOTS;
 
 // Questions 1 to 5, of the file and its slot 0.
+#[tactic(auto, unfolding(crate::specs::Told::told_by, sums::specs::Choice::if_then_else))]
 pub fn ask_head(file: &[u8], h: Header) -> Verdict
     ensures { result ≡ told_by (head_asks_of file.now h) }
 {
@@ -51,6 +52,7 @@ pub fn ask_head(file: &[u8], h: Header) -> Verdict
 
 // Questions 6 to 9, of a link to a group, store record or locomotive: whether its slot is a source so far is `known`, and `number` is what the slot's read answers of
 // 8 and 9.
+#[tactic(auto, unfolding(crate::specs::Told::told_by, sums::specs::Choice::if_then_else))]
 pub fn ask_link(file: &[u8], known: bool, holder: u16, link: u16, number: u8) -> Verdict
     ensures { result ≡ told_by (link_asked file.now known holder link number) }
 {
@@ -70,6 +72,7 @@ pub fn ask_link(file: &[u8], known: bool, holder: u16, link: u16, number: u8) ->
 }
 
 // Questions 10, 6, 8, 9 and 10, of a link to a group's coefficient slot at a place from 0: `number` is what its read answers of 8 and 9.
+#[tactic(auto, unfolding(crate::specs::Told::told_by, sums::specs::Choice::if_then_else))]
 pub fn ask_row(file: &[u8], holder: u16, link: u16, place: u8, number: u8, pollutant: u8) -> Verdict
     ensures { result ≡ told_by (row_asked file.now holder link place number pollutant) }
 {
@@ -92,6 +95,7 @@ pub fn ask_row(file: &[u8], holder: u16, link: u16, place: u8, number: u8, pollu
 }
 
 // One question more, where nothing was refused `before` it: 11 of a group, 14 of a locomotive.
+#[tactic(auto, unfolding(crate::specs::Told::asked, sums::specs::Choice::if_then_else))]
 pub fn ask(before: Verdict, yes: bool, number: u8, slot: u16) -> Verdict
     ensures { result ≡ asked before (question yes number slot) }
 {

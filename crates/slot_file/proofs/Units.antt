@@ -10,7 +10,7 @@ use Rattle.vehicle_fields.specs.Fields.{no_coefficients}
 use Rattle.vehicle_factors.specs.Factors.{standard_factors}
 use Rattle.vehicles.specs.Rules.{emission_count}
 use Rattle.vehicles.proofs.Paper.{counted}
-use Rattle.stores.proofs.Paper.{handling_counted, standing_counted, aspiration-counted}
+use Rattle.stores.proofs.Paper.{handling_counted, standing_counted, aspiration_counted}
 use Rattle.sums.specs.Answer.{Contribution}
 use Rattle.locomotive_fields.specs.declared.fields.Locomotive.{Locomotive}
 use Rattle.locomotives.specs.Rules.{substance_count}
@@ -50,7 +50,7 @@ store_units : (r : StoreRecord) → Each Units (store_contributions r)
 unfolding store_contributions
 store_units (Handling h) = (units _ (handling_counted h), tt)
 store_units (Standing s) = (units _ (standing_counted s), tt)
-store_units (Aspiration a) = (units _ (aspiration-counted a), tt)
+store_units (Aspiration a) = (units _ (aspiration_counted a), tt)
 
 locomotive_units : (l : Locomotive) → Each Units (locomotive_contributions l)
 unfolding locomotive_contributions

@@ -13,7 +13,7 @@ use Rattle.stores.specs.Rules.{handling_peak, standing_peak, bulk_tonnes, aspira
 use Rattle.stores.specs.Parts.{exposure_parts, handling_parts, standing_parts, aspiration_parts}
 use Rattle.stores.proofs.TableTests.{k1_scaled, k2_scaled, q_scaled, k3_scaled, k4_scaled, k5_scaled, k6_scaled, k7_scaled, drop_scaled}
 use Rattle.stores.proofs.Ranges.{handling, standing, aspiration}
-use Rattle.stores.proofs.Paper.{handling_counted, standing_counted, aspiration-counted}
+use Rattle.stores.proofs.Paper.{handling_counted, standing_counted, aspiration_counted}
 
 exposure_most : (b : Bulk) → exposure_parts b ≤ 23 * 1000 * 100 * 10
 unfolding exposure_parts
@@ -41,4 +41,4 @@ unfolding aspiration_parts
 aspiration_bounded a p =
     let r = aspiration a p in
     let m : aspiration_parts a ≤ 10000000000000000 = r.concentration ⊗ r.flow ⊗ sub-le 10000 a.capture in
-    bounded 1 (aspiration-counted a) (omega (arith, m ⊗ r.hours)) (omega arith)
+    bounded 1 (aspiration_counted a) (omega (arith, m ⊗ r.hours)) (omega arith)

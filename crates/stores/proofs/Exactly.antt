@@ -10,7 +10,7 @@ use Rattle.store_records.specs.declared.records.Handling.{Handling}
 use Rattle.store_records.specs.declared.records.Standing.{Standing}
 use Rattle.store_records.specs.declared.records.Aspiration.{Aspiration}
 use Rattle.stores.specs.Rules.{handling_peak, standing_peak, bulk_tonnes, aspiration_peak, aspiration_tonnes, handling_contribution, standing_contribution, aspiration_contribution, handling_answer, standing_answer, aspiration_answer}
-use Rattle.stores.proofs.Paper.{handling_counted, standing_counted, aspiration-counted}
+use Rattle.stores.proofs.Paper.{handling_counted, standing_counted, aspiration_counted}
 use Rattle.stores.proofs.Bounds.{handling_bounded, standing_bounded, aspiration_bounded}
 
 pub handling_emitted : (h : Handling) → handling_in_range h ≡ true → (handling_answer h).emission ≡ emitted (handling_contribution h)
@@ -32,4 +32,4 @@ unfolding aspiration_answer if_then_else
 aspiration_emitted a p = simp p
 
 pub aspiration_exactly : (a : Aspiration) → aspiration_in_range a ≡ true → Exactly (aspiration_answer a).emission (aspiration_tonnes (aspiration_peak a) a.hours) (aspiration_peak a)
-aspiration_exactly a p = rw (aspiration_emitted a p) (exactly (aspiration_contribution a) (lit< tt) (aspiration-counted a) (aspiration_bounded a p))
+aspiration_exactly a p = rw (aspiration_emitted a p) (exactly (aspiration_contribution a) (lit< tt) (aspiration_counted a) (aspiration_bounded a p))

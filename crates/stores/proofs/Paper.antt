@@ -50,10 +50,10 @@ handling_counted h = bulk_counted (handling_parts_lem h)
 pub standing_counted : (s : Standing) → Counted (bulk_tonnes (standing_peak s)) (standing_peak s) (standing_parts s * bulk_year_units) (standing_parts s * bulk_units)
 standing_counted s = bulk_counted (standing_parts_lem s)
 
-pub aspiration-counted :
+pub aspiration_counted :
     (a : Aspiration) → Counted (aspiration_tonnes (aspiration_peak a) a.hours) (aspiration_peak a) (aspiration_parts a * a.hours * aspiration_hour_units) (aspiration_parts a * aspiration_units)
 unfolding aspiration_tonnes
-aspiration-counted a =
+aspiration_counted a =
     let e = aspiration_parts_lem a in
     record {
       annual = ≈_over _ _ (lit< tt) (omega arith) (≈_⊙ (≈_⊙ (≈_refl 36 10000 (lit< tt)) e) (≈_refl a.hours 1 (lit< tt)));

@@ -81,6 +81,7 @@ pub fn tezhebul_aspiration(
     )
 }
 
+#[tactic(auto, unfolding(crate::specs::Fields::flagged, sums::specs::Choice::if_then_else))]
 fn group_answer(flags: u8, g: Group, temperatures: &[i16], coefficients: &[u32]) -> GroupAnswer
     requires { (length temperatures.now ≡ 12) × (length coefficients.now ≡ row_size * pollutant_count) }
     ensures { result ≡ flagged flags (group_answer g temperatures.now (rows_of coefficients.now)) }

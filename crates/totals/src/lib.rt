@@ -61,6 +61,7 @@ pub fn none() -> [u64; NUMBERS]
 }
 
 // Adds to the sums of the emission's code; a code that the listing does not have adds to none, and memory of another length stays as it is.
+#[tactic(auto, using(crate::proofs::Adding::plus_length), unfolding(crate::specs::Totals::plus_in, sums::specs::Choice::if_then_else))]
 pub fn add(totals: &mut [u64], e: Emission)
     ensures { totals.new ≡ plus_in totals.old e }
 {

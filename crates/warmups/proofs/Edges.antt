@@ -12,6 +12,9 @@ use Rattle.warmups.specs.Temperatures.{below, place}
 abbrev pub held : ℤ → ℤ
 held t = to_z w16 (of_z w16 t)
 
+pub kept : (t : ℤ) → SFits w16 t → held t ≡ t
+kept t f = to_z-of_z f
+
 -- t is below an edge that is no lower than one it is below, and not below one that is no higher than one it is not below
 under : (t b e : ℤ) → lt_z t b ≡ true → le_z b e ≡ true → lt_z t e ≡ true
 under t b e h l = holds (lt_z t e) (<ℤ-≤ℤ_trans (lt_z_yes {a = t} {b = b} (subst T (sym h) tt)) (le_z_yes {a = b} {b = e} (subst T (sym l) tt))).lt

@@ -2,6 +2,7 @@
 ghost use Rattle.std.specs.Prelude.{◌≡◌};
 ghost use Rattle.warmups.specs.Temperatures.{lower_of, lowest_of, warmup_band};
 
+#[tactic(auto, using(crate::proofs::Edges::kept), unfolding(crate::specs::Temperatures::lower_of, sums::specs::Choice::if_then_else))]
 fn lower(x: i16, y: i16) -> i16
     ensures { result ≡ lower_of x y }
 {

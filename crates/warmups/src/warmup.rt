@@ -42,6 +42,7 @@ fn untimed_in(times: [u16; BANDS], g: Group, band: u8) -> Minutes
     }
 }
 
+#[tactic(auto, unfolding(crate::specs::Warmup::tenths_in, sums::specs::Choice::if_then_else))]
 fn minutes_in(times: [u16; BANDS], g: Group, band: u8) -> Minutes
     ensures { result ≡ tenths (tenths_in times g band) }
 {

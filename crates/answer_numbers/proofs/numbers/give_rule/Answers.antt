@@ -8,12 +8,12 @@ use Rattle.sums.proofs.Choices.{yes, no}
 use Rattle.answer_numbers.specs.Numbers.{into, emission_size, emissions_numbers, rule_numbers, rule_size}
 use Rattle.answer_numbers.proofs.numbers.give_rule.Goals as goal
 
-emissions-length : (es : List Emission) → length (emissions_numbers es) ≡ emission_size * length es
-emissions-length [] = refl
-emissions-length (e ∷ es) = omega (arith, emissions-length es)
+emissions_length : (es : List Emission) → length (emissions_numbers es) ≡ emission_size * length es
+emissions_length [] = refl
+emissions_length (e ∷ es) = omega (arith, emissions_length es)
 
 size : (v : Verdict) (n : ℕ) (es : List Emission) → n ≤ length es → rule_size n ≡ length (rule_numbers v (take n es))
-size v n es h = omega (arith, emissions-length (take n es), length-take-le n es h)
+size v n es h = omega (arith, emissions_length (take n es), length-take-le n es h)
 
 pub returns-then-out-n : goal.returns-then-out-n
 unfolding into

@@ -1,15 +1,8 @@
 -- Each substance by its rate, or as it was.
-use Rattle.std.proofs.Common.{◌+◌, ◌*◌, arith}
+use Rattle.std.proofs.Common.{◌≡◌, get_or, ◌+◌, ◌*◌, arith}
 use Rattle.locomotive_fields.specs.Fields.{mode_count}
-use Rattle.locomotives.proofs.Modes.{hourly_at_lem, bounds, with_share, without_share}
+use Rattle.locomotives.proofs.Modes.{hourly_at_lem, bounds, with_share}
 use Rattle.locomotives.proofs.rule.with_mode.Goals as goal
-
-pub returns-then-share-eq0 : goal.returns-then-share-eq0
-returns-then-share-eq0 c =
-    let e = c.if-share-eq0.true in
-    let l = c.args.l in
-    let k = c.args.k in
-    rw (c.requires.2, without_share l 0 k e, without_share l 1 k e, without_share l 2 k e)
 
 pub with_rate-requires : goal.with_rate-requires
 with_rate-requires c =
@@ -33,7 +26,7 @@ pub returns : goal.returns
 returns c =
     let l = c.args.l in
     let k = c.args.k in
-    let e = c.if-share-eq0.false in
+    let e : get_or l.shares k 0 ≡ 0 → ⊥ = λ z. omega arith in
     rw (
       c.with_rate-3.ensures,
       c.with_rate-2.ensures,
