@@ -19,7 +19,8 @@ pub(crate) fn put_decimal(out: &mut [u8; LISTING_ROOM], at: usize, x: u64) -> us
     requires { at + 20 < listing_room }
     ensures { Added out.old at out.new result (decimal x) × (result ≤ at + 20) }
 {
-    if x < 10 {
+    let is_digit = x < 10;
+    if is_digit {
         text::put_byte(out, at, 48 + x as u8)
     } else {
         let last = put_decimal(out, at, x / 10);

@@ -34,7 +34,7 @@ pub fn milliseconds(files: &[PathBuf]) -> Result<Pair, String> {
     Ok(least)
 }
 
-/// `rt check inventory` writes the one, and cargo the other, beside this program.
+/// `tests/build.sh inventory` writes the one, and cargo the other, beside this program.
 fn programs() -> Result<Programs, String> {
     let this = env::current_exe().map_err(|error| format!("benchmark: {error}"))?;
     Ok(Programs {
