@@ -67,20 +67,20 @@ each_gathered f h [] = tt
 each_gathered f h (x ∷ l) = each_append Units (f x) (gathered f l) (h x) (each_gathered f h l)
 
 module _ (v : Inventory) where
-  abbrev fromGroups : List Contribution
-  fromGroups = gathered (group_contributions v.temperatures) v.groups
+  abbrev from_groups : List Contribution
+  from_groups = gathered (group_contributions v.temperatures) v.groups
 
-  abbrev fromStores : List Contribution
-  fromStores = gathered store_contributions v.stores
+  abbrev from_stores : List Contribution
+  from_stores = gathered store_contributions v.stores
 
-  abbrev fromLocomotives : List Contribution
-  fromLocomotives = gathered locomotive_contributions v.locomotives
+  abbrev from_locomotives : List Contribution
+  from_locomotives = gathered locomotive_contributions v.locomotives
 
   all_units : Each Units (contributions v)
   unfolding contributions
   all_units =
-      each_append Units (fromGroups ++ fromStores) fromLocomotives
-      (each_append Units fromGroups fromStores (each_gathered (group_contributions v.temperatures) (group_units v.temperatures) v.groups) (each_gathered store_contributions store_units v.stores))
+      each_append Units (from_groups ++ from_stores) from_locomotives
+      (each_append Units from_groups from_stores (each_gathered (group_contributions v.temperatures) (group_units v.temperatures) v.groups) (each_gathered store_contributions store_units v.stores))
       (each_gathered locomotive_contributions locomotive_units v.locomotives)
 
   -- a total over all contributions is one over the groups, one over the store records and one over the locomotives
@@ -92,8 +92,8 @@ module _ (v : Inventory) where
   total_contributions f =
       omega (
         arith,
-        total_append f (fromGroups ++ fromStores) fromLocomotives,
-        total_append f fromGroups fromStores,
+        total_append f (from_groups ++ from_stores) from_locomotives,
+        total_append f from_groups from_stores,
         total_gathered f (group_contributions v.temperatures) v.groups,
         total_gathered f store_contributions v.stores,
         total_gathered f locomotive_contributions v.locomotives,

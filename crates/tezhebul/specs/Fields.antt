@@ -98,9 +98,9 @@ flagged flags a = if_then_else (leb flags 3) a (group_refusal 9)
 
 -- a locomotive; "five 16-bit time shares ... idle to full power"
 abbrev pub locomotive_of : ℕ → ℕ → ℕ → ℕ → ℕ → ℕ → ℕ → ℕ → ℕ → Locomotive
-locomotive_of model idle quarter half threeQuarters full hours old zone = record {
+locomotive_of model idle quarter half three_quarters full hours old zone = record {
   model = model;
-  shares = idle ∷ quarter ∷ half ∷ threeQuarters ∷ full ∷ [];
+  shares = idle ∷ quarter ∷ half ∷ three_quarters ∷ full ∷ [];
   hours = hours;
   old = old;
   zone = zone;

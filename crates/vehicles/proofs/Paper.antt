@@ -52,19 +52,19 @@ module _ (v : Neutraliser) (c : ℕ) where
       rw (a, b, f, ← s) (linear x y (i * z) (w * t) (r * (d + e)) (i * (2 * u)) n)
 
 module _ (times : List ℕ) (g : Group) (bs : List ℕ) (k : Coefficients) (c : ℕ) where
-  abbrev monthParts : ℕ → ℕ
-  monthParts m = days_parts g k c (conditions_in times g (get_or bs m 0)) (get_or g.days m 0)
+  abbrev month_parts : ℕ → ℕ
+  month_parts m = days_parts g k c (conditions_in times g (get_or bs m 0)) (get_or g.days m 0)
 
   -- the first n months' warm-up, run and idling, each with its coefficient
   by_days : (n : ℕ) →
       mass_parts g.neutraliser c (sum_to n (λ (m : ℕ). (get_or k.warmup (month_period g bs m) no_minute).0 * month_warmup times g bs m))
       (sum_to n (λ (m : ℕ). (get_or k.run (month_period g bs m) no_kilometre).0 * month_run g m)) (k.idle.0 * sum_to n (month_idle g))
-      ≡ sum_to n monthParts
+      ≡ sum_to n month_parts
   unfolding out_parts sum_to mass_parts conditions_in
   by_days zero = omega arith
-  by_days (suc n) = one_month_more g.neutraliser c _ _ _ _ _ _ _ _ _ _ _ ∙ ap (λ (x : ℕ). x + monthParts n) (by_days n)
+  by_days (suc n) = one_month_more g.neutraliser c _ _ _ _ _ _ _ _ _ _ _ ∙ ap (λ (x : ℕ). x + month_parts n) (by_days n)
 
-  year_by_days : year_parts g k c (activity_of times g bs) ≡ sum_to 12 monthParts
+  year_by_days : year_parts g k c (activity_of times g bs) ≡ sum_to 12 month_parts
   unfolding year_parts activity_of list_to sum_to
   year_by_days =
       rw (by_months g bs (month_warmup times g bs) (λ (p : ℕ). (get_or k.warmup p no_minute).0) 12, by_months g bs (month_run g) (λ (p : ℕ). (get_or k.run p no_kilometre).0) 12)
@@ -119,9 +119,9 @@ module _ (f : Factors) (g : Group) (k : Coefficients) (y : Frac) (c : ℕ) (same
       let b = (climate_of ts).bands in
       ≈_over (year_parts g k c (activity_of times g b) * g.share * (g.vehicles * year_units)) tonne_parts (lit< tt) (omega arith)
       (≈_per 1000000 (lit< tt)
-      (rw (sum_to_times (g.share * g.vehicles) (monthParts times g b k c) 12, ← year_by_days times g b k c)
+      (rw (sum_to_times (g.share * g.vehicles) (month_parts times g b k c) 12, ← year_by_days times g b k c)
       at (total_to_parts (λ (m : ℕ). month_grams g k y (period_at g (get_or ts m (pos 0))) (minutes_at f g (get_or ts m (pos 0))) (get_or g.days m 0))
-      (λ (m : ℕ). monthParts times g b k c m * (g.share * g.vehicles)) 200000000000 (lit< tt) 12
+      (λ (m : ℕ). month_parts times g b k c m * (g.share * g.vehicles)) 200000000000 (lit< tt) 12
       (λ (m : ℕ) (p : m < 12). rw (band_at ts m p) (month (get_or ts m (pos 0)) (get_or g.days m 0))))))
 
   peak : (t : ℤ) → peak_grams (minutes_at f g) g k y t ≈ ((out_parts g k c (conditions t) * g.leaving * peak_units) over gram_parts)
