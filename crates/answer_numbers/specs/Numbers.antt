@@ -1,28 +1,33 @@
 -- An answer as numbers, for a caller that has no structs of ours.
-use Rattle.std.specs.Prelude.{ℕ, ◌+◌, ◌*◌, ◌≡◌, Bool, List, [], ◌∷◌, ◌++◌, leb, length, drop}
+use Rattle.std.specs.Prelude.{ℕ, ◌+◌, ◌-◌, ◌*◌, ◌≡◌, Bool, List, [], ◌∷◌, ◌++◌, leb, length, drop, replicate, Result, Ok, Err}
 use Rattle.sums.specs.Choice.{if_then_else}
 use Rattle.sums.specs.Figures.{annual_printed, peak_printed}
-use Rattle.sums.specs.declared.answer.Verdict.{Verdict}
+use Rattle.sums.specs.Answer.{number_of}
+use Rattle.sums.specs.declared.answer.Refusal.{Refusal}
 use Rattle.sums.specs.declared.answer.Emission.{Emission}
-use Rattle.stores.specs.declared.rules.StoreAnswer.{StoreAnswer}
-use Rattle.vehicles.specs.Rules.{emission_count}
-use Rattle.vehicles.specs.declared.rule.GroupAnswer.{GroupAnswer}
-use Rattle.locomotives.specs.Rules.{substance_count}
-use Rattle.locomotives.specs.declared.rule.LocomotiveAnswer.{LocomotiveAnswer}
+use Rattle.stores.specs.Rules.{StoreAnswer}
+use Rattle.vehicles.specs.Rules.{emission_count, GroupAnswer}
+use Rattle.locomotives.specs.Rules.{substance_count, LocomotiveAnswer}
 use Rattle.slot_file.specs.Codes.{code_count}
 use Rattle.slot_file.specs.declared.Answer.{Answer}
 
--- a number and a slot in one
-abbrev pub packed : Verdict → ℕ
-packed v = 65536 * v.number + v.slot
+-- a number and a slot in one, and 0 where nothing is refused
+abbrev pub packed : Result Unit Refusal → ℕ
+packed (Ok u) = 0
+packed (Err r) = 65536 * number_of r.reason + r.slot
 
--- number, slot, groups, store records, locomotives, the annual figures by code, the peak figures by code
-abbrev pub numbers_of : Answer → List ℕ
-numbers_of a = a.number ∷ a.slot ∷ a.counts.groups ∷ a.counts.stores ∷ a.counts.locomotives ∷ (a.annual ++ a.peak)
+-- "A refusal gives its number and a slot, with every figure and count zero": so many numbers in all
+abbrev pub refusal_numbers : ℕ → Refusal → List ℕ
+refusal_numbers size r = number_of r.reason ∷ r.slot ∷ replicate (size - 2) 0
 
--- and how many numbers these are
+-- how many numbers there are of a file's answer
 abbrev pub answer_size : ℕ
 answer_size = 5 + 2 * code_count
+
+-- number and slot, which are 0 of an accepted file, groups, store records, locomotives, the annual figures by code, the peak figures by code
+abbrev pub numbers_of : Result Answer Refusal → List ℕ
+numbers_of (Ok a) = 0 ∷ 0 ∷ a.counts.groups ∷ a.counts.stores ∷ a.counts.locomotives ∷ (a.annual ++ a.peak)
+numbers_of (Err r) = refusal_numbers answer_size r
 
 -- the numbers at the start of a buffer, where they fit, and nothing else changed
 unfoldable pub into : List ℕ → List ℕ → List ℕ
@@ -45,29 +50,31 @@ abbrev pub emissions_numbers : List Emission → List ℕ
 emissions_numbers [] = []
 emissions_numbers (e ∷ es) = emission_numbers e ++ emissions_numbers es
 
--- a rule's answer: number, slot, what the source gives
-abbrev pub rule_numbers : Verdict → List Emission → List ℕ
-rule_numbers v es = v.number ∷ v.slot ∷ emissions_numbers es
-
--- and how many numbers these are of so many emissions
+-- how many numbers there are of a rule's answer of n emissions
 abbrev pub rule_size : ℕ → ℕ
 rule_size n = 2 + emission_size * n
 
+-- number and slot, which are 0 of a source that is not refused, and what the source gives; "such a rule answers 9, then 11 ..., with zero figures and slot 0"
+abbrev pub rule_numbers : ℕ → Result (List Emission) Refusal → List ℕ
+rule_numbers n (Ok es) = 0 ∷ 0 ∷ emissions_numbers es
+rule_numbers n (Err r) = refusal_numbers (rule_size n) r
+
 -- a store record gives to the code of its dust alone, a group and a locomotive to the codes of their emissions
 abbrev pub store_numbers : StoreAnswer → List ℕ
-store_numbers a = rule_numbers a.verdict (a.emission ∷ [])
+store_numbers (Ok e) = rule_numbers 1 (Ok (e ∷ []))
+store_numbers (Err r) = rule_numbers 1 (Err r)
 
 abbrev pub store_size : ℕ
 store_size = rule_size 1
 
 abbrev pub group_numbers : GroupAnswer → List ℕ
-group_numbers a = rule_numbers a.verdict a.emissions
+group_numbers = rule_numbers emission_count
 
 abbrev pub group_size : ℕ
 group_size = rule_size emission_count
 
 abbrev pub locomotive_numbers : LocomotiveAnswer → List ℕ
-locomotive_numbers a = rule_numbers a.verdict a.emissions
+locomotive_numbers = rule_numbers substance_count
 
 abbrev pub locomotive_size : ℕ
 locomotive_size = rule_size substance_count

@@ -2,48 +2,42 @@
 ghost use Rattle.answer_numbers.specs.Numbers.{numbers_of, answer_size, store_numbers, store_size, group_numbers, group_size, locomotive_numbers, locomotive_size, Given};
 
 use super::numbers;
-use locomotives::LocomotiveAnswer;
+use super::numbers::ANSWER_SIZE;
+use locomotives::SUBSTANCES;
 use slot_file::Answer;
-use stores::StoreAnswer;
-use sums::Emission;
-use vehicles::{EMISSIONS, GroupAnswer};
+use sums::{Emission, Refusal};
+use vehicles::EMISSIONS;
 
 // Of a file's answer.
-pub fn give_answer(a: Answer, out: &mut [u64]) -> bool
+pub fn give_answer(a: Result<Answer, Refusal>, out: &mut [u64]) -> bool
     ensures { Given answer_size (numbers_of a) out.old result out.new }
 {
-    let n = numbers::numbers_of(a);
-    numbers::give(&n, out)
+    match a {
+        Ok(a) => numbers::give(&numbers::numbers_of(a), out),
+        Err(r) => numbers::give_refusal(r, ANSWER_SIZE, out),
+    }
 }
 
 // Of what a store rule answers.
-pub fn give_store(a: StoreAnswer, out: &mut [u64]) -> bool
-    ensures { Given store_size (store_numbers a) out.old result out.new }
+pub fn give_store(store: Result<Emission, Refusal>, out: &mut [u64]) -> bool
+    ensures { Given store_size (store_numbers store) out.old result out.new }
 {
-    let e = a.emission;
-    let none = Emission::none();
-    let mut es = [none; EMISSIONS];
-    es[0] = e;
-    numbers::give_rule(a.verdict, es, 1, out)
+    match store {
+        Ok(emission) => numbers::give_rule(Ok([emission]), out),
+        Err(r) => numbers::give_rule::<1>(Err(r), out),
+    }
 }
 
 // Of what the rule of vehicle groups answers.
-pub fn give_group(a: GroupAnswer, out: &mut [u64]) -> bool
-    ensures { Given group_size (group_numbers a) out.old result out.new }
+pub fn give_group(group: Result<[Emission; EMISSIONS], Refusal>, out: &mut [u64]) -> bool
+    ensures { Given group_size (group_numbers group) out.old result out.new }
 {
-    let es = a.emissions;
-    numbers::give_rule(a.verdict, es, EMISSIONS, out)
+    numbers::give_rule(group, out)
 }
 
 // Of what the rule of locomotives answers.
-pub fn give_locomotive(a: LocomotiveAnswer, out: &mut [u64]) -> bool
-    ensures { Given locomotive_size (locomotive_numbers a) out.old result out.new }
+pub fn give_locomotive(locomotive: Result<[Emission; SUBSTANCES], Refusal>, out: &mut [u64]) -> bool
+    ensures { Given locomotive_size (locomotive_numbers locomotive) out.old result out.new }
 {
-    let given = a.emissions;
-    let none = Emission::none();
-    let mut es = [none; EMISSIONS];
-    es[0] = given[0];
-    es[1] = given[1];
-    es[2] = given[2];
-    numbers::give_rule(a.verdict, es, locomotives::SUBSTANCES, out)
+    numbers::give_rule(locomotive, out)
 }

@@ -7,110 +7,64 @@
 // slot and the length, and on a line of its own the buffer as it is afterwards. A case that is cut
 // off ends the run.
 //
-// tests/file_cases.py writes the cases, and works out what must be printed.
+// tests/file_cases.py writes the cases, and works out what must be printed. What can't be written
+// is left out, and the rest is printed all the same.
 #![tactic(auto)]
 
-ghost use Rattle.std.specs.Prelude.{◌<◌};
-
+use byteorder::{ByteOrder, LE};
+use listing_lines::LISTING_ROOM;
 use std::io::{Read, Stdin, Stdout, Write};
-
-// What can't be written is left out, and the rest is printed all the same.
-fn text(out: &mut Stdout, bytes: &[u8]) {
-    let _ = out.write_all(bytes);
-}
-
-fn number(out: &mut Stdout, n: u64) {
-    text(out, b" ");
-    let _ = streams::put_number(out, n);
-}
-
-fn line_end(out: &mut Stdout) {
-    text(out, b"\n");
-}
+use sums::Refusal;
 
 fn show(out: &mut Stdout, file: &[u8]) {
-    let mut shown = [0; listing_lines::LISTING_ROOM];
+    let mut shown = [0; LISTING_ROOM];
     let length = listing::print(file, &mut shown);
-    text(out, &shown[..length]);
+    let _ = out.write_all(&shown[..length]);
+}
+
+// What was asked, the number and the slot of the refusal, or zeros of none.
+fn told(out: &mut Stdout, asked: &str, refusal: Option<Refusal>) {
+    let _ = match refusal {
+        Some(r) => write!(out, "{asked} {} {}", u8::from(r.reason), r.slot),
+        None => write!(out, "{asked} 0 0"),
+    };
 }
 
 fn check(out: &mut Stdout, file: &[u8]) {
-    let verdict = walk::check(file);
-    text(out, b"checked");
-    number(out, verdict.number as u64);
-    number(out, verdict.slot as u64);
-    line_end(out);
+    told(out, "checked", walk::check(file).err());
+    let _ = writeln!(out);
 }
 
 fn lend(out: &mut Stdout, file: &[u8], buffer: &mut [u8]) {
     let listed = listing::list(file, buffer);
-    let answer = listed.answer;
-    text(out, b"listed");
-    number(out, answer.number as u64);
-    number(out, answer.slot as u64);
-    number(out, listed.written as u64);
-    line_end(out);
-    text(out, buffer);
-    line_end(out);
+    told(out, "listed", listed.err());
+    let written = listed.map_or(0, |listing| listing.written);
+    let _ = writeln!(out, " {written}");
+    let _ = out.write_all(buffer);
+    let _ = writeln!(out);
 }
 
-fn lend_front(out: &mut Stdout, file: &[u8], n: usize) {
-    let mut buffer = [126; 700];
-    let room: &mut [u8] = &mut buffer;
-    if n <= room.len() {
-        lend(out, file, &mut room[0..n]);
-    }
-}
-
-fn answer(out: &mut Stdout, file: &[u8], buffer: usize) {
-    if buffer == 65_535 {
+fn answer(out: &mut Stdout, file: &[u8], buffer: u16) {
+    if buffer == u16::MAX {
         show(out, file);
-    } else {
-        check(out, file);
-        lend_front(out, file, buffer);
+        return;
+    }
+    check(out, file);
+    let mut room = [b'~'; 700];
+    if let Some(lent) = room.get_mut(..usize::from(buffer)) {
+        lend(out, file, lent);
     }
 }
 
-// Whether a whole file of n bytes was there.
-fn next_file(
-    input: &mut Stdin,
-    out: &mut Stdout,
-    room: &mut [u8],
-    n: usize,
-    buffer: usize,
-) -> bool {
-    if n <= room.len() {
-        let file = &mut room[0..n];
-        if input.read_exact(file).is_ok() {
-            answer(out, file, buffer);
-            return true;
-        }
-    }
-    false
-}
-
-fn wide(b: u8) -> usize
-    ensures { result < 256 }
-{
-    b as usize
-}
-
-// Whether a whole case was there.
-fn next_case(input: &mut Stdin, out: &mut Stdout) -> bool {
+// Answers the next case, if all of it is there.
+fn next_case(input: &mut Stdin, out: &mut Stdout) -> Option<()> {
     let mut head = [0; 6];
-    if input.read_exact(&mut head).is_err() {
-        return false;
-    }
-    let low = wide(head[0]) + 256 * wide(head[1]);
-    let high = wide(head[2]) + 256 * wide(head[3]);
+    input.read_exact(&mut head).ok()?;
     let mut room = [0; 65_600];
-    next_file(
-        input,
-        out,
-        &mut room,
-        low + 65_536 * high,
-        wide(head[4]) + 256 * wide(head[5]),
-    )
+    let file = room.get_mut(..LE::read_u32(&head) as usize)?;
+    input.read_exact(file).ok()?;
+    answer(out, file, LE::read_u16(&head[4..]));
+    Some(())
 }
 
 // Nothing says that the input ends, so the cases are counted, up to a number that no run reaches.
@@ -118,7 +72,7 @@ fn main(rt: HostRuntime) {
     let mut input = rt.stdin();
     let mut out = rt.stdout();
     for _ in 0..u64::MAX {
-        if !next_case(&mut input, &mut out) {
+        if next_case(&mut input, &mut out).is_none() {
             return;
         }
     }

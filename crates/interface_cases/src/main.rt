@@ -20,55 +20,48 @@
 
 mod arguments;
 mod calls;
-mod printing;
 
-use arguments::{Head, ROOM};
-use std::io::{Read, Stdin, Stdout};
+use arguments::{Function, Head, ROOM};
+use std::io::{Read, Stdin, Stdout, Write};
 
-// Lends the front of both memories to the call, and prints them whole after it.
+// The first 32 bytes of a case.
+fn label(out: &mut Stdout, start: &[u8; 44]) {
+    let _ = out.write_all(&start[..32]);
+}
+
+// Lends the front of both memories to the call, and prints them whole after it. What can't be written is left out, and the rest is printed all the same.
 fn run(out: &mut Stdout, head: Head, all: &[u8; ROOM]) {
-    let lent = head.numbers;
-    let lent_bytes = head.bytes;
-    let mut memory = [7_777; 40];
-    let mut buffer = [126; 600];
-    let numbers: &mut [u64] = &mut memory;
-    let bytes: &mut [u8] = &mut buffer;
-    if lent <= numbers.len() {
-        if lent_bytes <= bytes.len() {
-            printing::number(
-                out,
-                calls::call(head, all, &mut bytes[0..lent_bytes], &mut numbers[0..lent]),
-            );
-        }
+    let mut numbers = [7_777; 40];
+    let mut bytes = [b'~'; 600];
+    if head.numbers <= numbers.len() && head.bytes <= bytes.len() {
+        let returned = calls::call(
+            head,
+            all,
+            &mut bytes[..head.bytes],
+            &mut numbers[..head.numbers],
+        );
+        let _ = write!(out, " {returned}");
     }
-    printing::numbers(out, numbers);
-    if head.function == 3 {
-        printing::bytes(out, bytes);
+    for n in &numbers {
+        let _ = write!(out, " {n}");
+    }
+    let _ = writeln!(out);
+    if head.function == Function::List {
+        let _ = out.write_all(&bytes);
+        let _ = writeln!(out);
     }
 }
 
-// Whether the first n bytes of the room were there.
-fn read_front(input: &mut Stdin, room: &mut [u8], n: usize) -> bool {
-    if n <= room.len() {
-        return input.read_exact(&mut room[0..n]).is_ok();
-    }
-    false
-}
-
-// Whether a whole case was there.
-fn next_case(input: &mut Stdin, out: &mut Stdout) -> bool {
-    let mut head = [0; 44];
+// Runs the next case, if all of it is there.
+fn next_case(input: &mut Stdin, out: &mut Stdout) -> Option<()> {
+    let mut start = [0; 44];
+    input.read_exact(&mut start).ok()?;
+    let head = Head::new(&start);
     let mut all = [0; ROOM];
-    if input.read_exact(&mut head).is_err() {
-        return false;
-    }
-    let h = arguments::head_of(&head);
-    if !read_front(input, &mut all, h.length) {
-        return false;
-    }
-    printing::label(out, &head);
-    run(out, h, &all);
-    true
+    input.read_exact(all.get_mut(..head.length)?).ok()?;
+    label(out, &start);
+    run(out, head, &all);
+    Some(())
 }
 
 // Nothing says that the input ends, so the cases are counted, up to a number that no run reaches.
@@ -76,7 +69,7 @@ fn main(rt: HostRuntime) {
     let mut input = rt.stdin();
     let mut out = rt.stdout();
     for _ in 0..u64::MAX {
-        if !next_case(&mut input, &mut out) {
+        if next_case(&mut input, &mut out).is_none() {
             return;
         }
     }

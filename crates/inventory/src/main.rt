@@ -1,7 +1,7 @@
 // Prints the listing of the inventory file on standard input, or its refusal line.
 #![tactic(auto)]
 
-ghost use Rattle.std.specs.Prelude.{◌≤◌, OnOk, length};
+ghost use Rattle.std.specs.Prelude.{IfOk, OnOk, length};
 ghost use Rattle.std.specs.Io.KnownBytes.{Appends};
 ghost use Rattle.slot_file.specs.Figures.{answer};
 ghost use Rattle.slot_file.specs.Listing.{printed};
@@ -20,19 +20,13 @@ fn is_argument_given(rt: &HostRuntime) -> bool {
     !matches!(rt.arg(1, &mut start), Err(FillError::NotPresent))
 }
 
-// How many bytes the file has, which then stand at the start of the room. An input that is longer than any inventory file fills the room, and is refused by its length
-// with the rest unread. One that was not read to its end counts as empty, since a part of a file is no file; standard error says why.
-fn read_file<R: Read>(input: &mut R, rt: &impl Eprint, room: &mut [u8]) -> usize
-    ensures bound { result ≤ length room.new }
-    ensures taken { IsTaken (R.remaining input.old) (R.remaining input.new) room.new result }
+// The file on a reader, which then stands at the start of the room. An input that is longer than any inventory file fills the room, and is refused by its length
+// with the rest unread.
+fn read_file<'a, R: Read>(input: &mut R, room: &'a mut [u8]) -> io::Result<&'a [u8]>
+    ensures { IfOk result (λ file. IsTaken (R.remaining input.old) (R.remaining input.new) (length room.old) file.now) }
 {
-    match streams::read_full(input, room) {
-        Ok(n) => n,
-        Err(e) => {
-            let _ = eprintln!(rt; "inventory: standard input: {e}");
-            0
-        }
-    }
+    let n = streams::read_full(input, room)?;
+    Ok(&room[..n])
 }
 
 // Writes the listing of a file, or its refusal line.
@@ -50,8 +44,15 @@ fn main(rt: HostRuntime) {
         let _ = eprintln!(rt; "inventory: reads standard input: inventory < FILE");
     }
     let mut room = [0; ROOM];
-    let n = read_file(&mut rt.stdin(), &rt, &mut room);
-    if let Err(e) = show(&mut rt.stdout(), &room[..n]) {
+    // An input that was not read to its end counts as empty, since a part of a file is no file; standard error says why.
+    let file = match read_file(&mut rt.stdin(), &mut room) {
+        Ok(file) => file,
+        Err(e) => {
+            let _ = eprintln!(rt; "inventory: standard input: {e}");
+            &[]
+        }
+    };
+    if let Err(e) = show(&mut rt.stdout(), file) {
         let _ = eprintln!(rt; "inventory: standard output: {e}");
     }
 }

@@ -2,10 +2,10 @@
 #![tactic(auto)]
 
 pub mod lines;
-mod numbers;
-mod text;
+mod page;
 
-pub use lines::{put_listing, put_printed};
+pub use lines::{listing_page, put_listing, put_printed};
+pub use page::Page;
 use slot_file::COUNT;
 
 // Room for any listing: the longest has 532 bytes.

@@ -1,77 +1,94 @@
 // The lines of the listing, and the refusal line.
-ghost use Rattle.std.specs.Prelude.{◌+◌, ◌*◌, ◌≤◌};
+ghost use Rattle.std.specs.Prelude.{◌≡◌, ◌+◌, ◌*◌, ◌≤◌, ◌++◌, length};
 ghost use Rattle.slot_file.specs.Codes.{codes, code_count};
 ghost use Rattle.slot_file.specs.Listing.{line, lines, listing, refusal_line, printed};
 ghost use Rattle.listing_lines.specs.Text.{listing_room, Added, pair, pair_most, line_most};
 
-use super::{LISTING_ROOM, numbers, text};
+use super::{LISTING_ROOM, Page};
 use slot_file::{Answer, COUNT};
+use sums::Refusal;
 
-// Code, tonnes, grams per second. There is room for one line more: a part does not count on the parts before it to be short.
-fn put_line(out: &mut [u8; LISTING_ROOM], from: usize, code: u64, annual: u64, peak: u64) -> usize
-    requires { from + 2 * line_most ≤ listing_room }
-    ensures { Added out.old from out.new result (line code annual peak) × (result ≤ from + line_most) }
-{
-    let at = numbers::put_padded(out, from, code, 4);
-    let at = text::put_byte(out, at, b' ');
-    let at = numbers::put_fixed(out, at, annual, 6);
-    let at = text::put_byte(out, at, b' ');
-    let end = numbers::put_fixed(out, at, peak, 7);
-    text::put_byte(out, end, b'\n')
-}
-
-// A line for each code.
-fn put_lines(out: &mut [u8; LISTING_ROOM], from: usize, a: Answer) -> usize
-    requires { from + (code_count + 1) * line_most ≤ listing_room }
-    ensures { Added out.old from out.new result (lines codes a.annual a.peak) × (result ≤ from + code_count * line_most) }
-{
-    let mut at = from;
-    let mut i = 0;
-    while i < COUNT {
-        let code = slot_file::code_at(i) as u64;
-        at = put_line(out, at, code, a.annual[i], a.peak[i]);
-        i += 1;
+impl Page {
+    // Code, tonnes, grams per second. There is room for one line more: a part does not count on the parts before it to be short.
+    #[tactic(auto, unfolding(slot_file::specs::Listing::line, slot_file::specs::Listing::text))]
+    fn push_line(&mut self, code: u16, annual: u64, peak: u64)
+        requires { length self.old + 2 * line_most ≤ listing_room }
+        ensures text { self.new ≡ self.old ++ line code annual peak }
+        ensures short { length self.new ≤ length self.old + line_most }
+    {
+        self.push_padded(u64::from(code), 4);
+        self.push_byte(b' ');
+        self.push_fixed(annual, 6);
+        self.push_byte(b' ');
+        self.push_fixed(peak, 7);
+        self.push_byte(b'\n');
     }
-    at
+
+    // A line for each code.
+    fn push_lines(&mut self, annual: [u64; COUNT], peak: [u64; COUNT])
+        requires { length self.old + (code_count + 1) * line_most ≤ listing_room }
+        ensures text { self.new ≡ self.old ++ lines codes annual peak }
+        ensures short { length self.new ≤ length self.old + code_count * line_most }
+    {
+        for i in 0..COUNT {
+            self.push_line(slot_file::code_at(i), annual[i], peak[i]);
+        }
+    }
+
+    // Two numbers parted by a space, and a line feed.
+    #[tactic(auto, unfolding(slot_file::specs::Listing::text))]
+    fn push_pair(&mut self, x: u64, y: u64)
+        requires { length self.old + pair_most ≤ listing_room }
+        ensures text { self.new ≡ self.old ++ pair x y }
+        ensures short { length self.new ≤ length self.old + pair_most }
+    {
+        self.push_decimal(x);
+        self.push_byte(b' ');
+        self.push_decimal(y);
+        self.push_byte(b'\n');
+    }
 }
 
-// Two numbers parted by a space, and a line feed.
-fn put_pair(out: &mut [u8; LISTING_ROOM], from: usize, x: u64, y: u64) -> usize
-    requires { from + pair_most ≤ listing_room }
-    ensures { Added out.old from out.new result (pair x y) × (result ≤ from + pair_most) }
+// The listing.
+#[tactic(auto, unfolding(slot_file::specs::Listing::listing, slot_file::specs::Listing::text))]
+pub fn listing_page(a: Answer) -> Page
+    ensures { result ≡ listing a }
 {
-    let at = numbers::put_decimal(out, from, x);
-    let at = text::put_byte(out, at, b' ');
-    let at = numbers::put_decimal(out, at, y);
-    text::put_byte(out, at, b'\n')
+    let mut page = Page::new();
+    page.push_text(b"code t/year g/s\n");
+    page.push_lines(a.annual, a.peak);
+    page.push_text(b"sources ");
+    page.push_decimal(u64::from(a.counts.groups));
+    page.push_byte(b' ');
+    page.push_pair(u64::from(a.counts.stores), u64::from(a.counts.locomotives));
+    page
+}
+
+#[tactic(auto, unfolding(slot_file::specs::Listing::refusal_line, slot_file::specs::Listing::text))]
+fn refusal_page(r: Refusal) -> Page
+    ensures { result ≡ refusal_line r }
+{
+    let number = u64::from(u8::from(r.reason));
+    let mut page = Page::new();
+    page.push_text(b"refused ");
+    page.push_pair(number, u64::from(r.slot));
+    page
 }
 
 // The listing, from byte 0 on, and its length; the other bytes stay as they are.
 pub fn put_listing(out: &mut [u8; LISTING_ROOM], a: Answer) -> usize
     ensures { Added out.old 0 out.new result (listing a) × (result ≤ listing_room) }
 {
-    let at = text::put_text(out, 0, b"code t/year g/s\n");
-    let at = put_lines(out, at, a);
-    let at = text::put_text(out, at, b"sources ");
-    let at = numbers::put_decimal(out, at, a.counts.groups as u64);
-    let at = text::put_byte(out, at, b' ');
-    put_pair(out, at, a.counts.stores as u64, a.counts.locomotives as u64)
-}
-
-fn put_refusal(out: &mut [u8; LISTING_ROOM], number: u8, slot: u16) -> usize
-    ensures { Added out.old 0 out.new result (refusal_line number slot) × (result ≤ listing_room) }
-{
-    let at = text::put_text(out, 0, b"refused ");
-    put_pair(out, at, number as u64, slot as u64)
+    listing_page(a).copy_to(out)
 }
 
 // The listing, or the refusal line, in the same way.
-pub fn put_printed(out: &mut [u8; LISTING_ROOM], a: Answer) -> usize
+#[tactic(auto, unfolding(slot_file::specs::Listing::printed))]
+pub fn put_printed(out: &mut [u8; LISTING_ROOM], a: Result<Answer, Refusal>) -> usize
     ensures { Added out.old 0 out.new result (printed a) × (result ≤ listing_room) }
 {
-    if a.number == 0 {
-        put_listing(out, a)
-    } else {
-        put_refusal(out, a.number, a.slot)
+    match a {
+        Ok(a) => put_listing(out, a),
+        Err(r) => refusal_page(r).copy_to(out),
     }
 }

@@ -1,6 +1,6 @@
 -- No locomotive in range gives a code more than a full file's sums allow, so those are exact, and its answer has exactly the rule's tonnes and grams. A
 -- formula's bound is written as the formula is. Assumes nothing.
-use Rattle.std.proofs.Common.{ℕ, zero, suc, ◌*◌, ◌<◌, ◌≤◌, le_refl, arith, ◌≡◌, true, leb, eqb, lit<, get_or}
+use Rattle.std.proofs.Common.{ℕ, zero, suc, ◌*◌, ◌<◌, ◌≤◌, le_refl, arith, ◌≡◌, true, leb, eqb, lit<, get_or, Ok}
 use Rattle.sums.specs.Choice.{if_then_else}
 use Rattle.sums.specs.Answer.{no_emission, emitted}
 use Rattle.sums.specs.Exactness.{Bounded, Exactly}
@@ -41,9 +41,12 @@ module _ (l : Locomotive) (h : locomotive_in_range l ≡ true) where
         let b = greatest_most l p mode_count in
         bounded substance_count (locomotive_counted l p) (omega arith) (omega arith)
 
-    -- each emission of a locomotive that is not refused
-    pub locomotive_exactly : shares_add_up l ≡ true → p < substance_count → Exactly (get_or (locomotive_answer l).emissions p no_emission) (locomotive_tonnes l p) (locomotive_peak l p)
+    -- a locomotive that is not refused is answered its emissions, and each of them
+    pub locomotive_exactly : shares_add_up l ≡ true → p < substance_count
+        → (locomotive_answer l ≡ Ok (locomotive_emissions l)) × Exactly (get_or (locomotive_emissions l) p no_emission) (locomotive_tonnes l p) (locomotive_peak l p)
     unfolding locomotive_answer locomotive_emissions if_then_else
-    locomotive_exactly b q =
-        simp (h, b) (rw (list_to_at no_emission substance_count (λ (m : ℕ). emitted (locomotive_contribution l m)) p q)
-        (exactly (locomotive_contribution l p) (lit< tt) (locomotive_counted l p) locomotive_bounded))
+    locomotive_exactly b q = (
+      simp (h, b),
+      rw (list_to_at no_emission substance_count (λ (m : ℕ). emitted (locomotive_contribution l m)) p q)
+          (exactly (locomotive_contribution l p) (lit< tt) (locomotive_counted l p) locomotive_bounded),
+    )

@@ -1,7 +1,7 @@
 -- One mode more: its rate by number is the table's and keeps to the bounds, with a share it adds to the mean and the greatest, and without one it adds nothing.
 -- Assumes nothing.
-use Rattle.std.proofs.Common.{ℕ, ◌+◌, ◌*◌, ◌<◌, ◌≤◌, mul-zero, add-zero, add-one, arith, ◌≡◌, ap, ◌∙◌, true, ne_eqb, get_or}
-use Rattle.sums.specs.Choice.{if_then_else, sum_to}
+use Rattle.std.proofs.Common.{ℕ, ◌+◌, ◌<◌, ◌≤◌, mul-zero, add-zero, add-one, arith, ◌≡◌, ap, ◌∙◌, true, ne_eqb, get_or, List, []}
+use Rattle.sums.specs.Choice.{if_then_else, sum_to, list_to}
 use Rattle.sums.specs.Fraction.{whole, parts_of}
 use Rattle.sums.proofs.Choices.{list_to_at}
 use Rattle.locomotive_fields.specs.Fields.{mode_count, locomotive_in_range}
@@ -12,12 +12,11 @@ use Rattle.locomotives.proofs.Scales.{hourly_scaled}
 use Rattle.locomotives.proofs.Bounds.{mean_most}
 
 module _ (l : Locomotive) (p k : ℕ) where
-  pub hourly_at_lem : (i : ℕ) → i ≡ mode_count * p + k → i < substance_count * mode_count → get_or (hourly_of l.model) i 0 ≡ hourly_parts l p k
+  pub hourly_at_lem : p < substance_count → k < mode_count → get_or (get_or (hourly_of l.model) p []) k 0 ≡ hourly_parts l p k
   unfolding hourly_of
-  hourly_at_lem i e h =
-      let s : place_in l.model 0 i ≡ place_in l.model p k = omega arith in
-      list_to_at 0 (substance_count * mode_count) (λ (i : ℕ). parts_of 1000 (get_or table21 (place_in l.model 0 i) (whole 0))) i h
-      ∙ ap (λ (i : ℕ). parts_of 1000 (get_or table21 i (whole 0))) s
+  hourly_at_lem h q =
+      ap (λ (row : List ℕ). get_or row k 0) (list_to_at [] substance_count (λ (p : ℕ). list_to mode_count (λ (k : ℕ). parts_of 1000 (get_or table21 (place_in l.model p k) (whole 0)))) p h)
+      ∙ list_to_at 0 mode_count (λ (k : ℕ). parts_of 1000 (get_or table21 (place_in l.model p k) (whole 0))) k q
 
   pub bounds : locomotive_in_range l ≡ true → k < mode_count → (mean_parts l p k ≤ 1000000000000) × (hourly_parts l p k ≤ 15210)
   bounds h q = (omega (arith, mean_most l h p k (omega arith)), (hourly_scaled l p k).most)

@@ -8,15 +8,15 @@ use Rattle.locomotive_fields.specs.Fields.{mode_count}
 use Rattle.locomotive_fields.specs.declared.fields.Locomotive.{Locomotive}
 use Rattle.locomotives.specs.Rules.{locomotive_codes, substance_count, table21, place_in, hourly_at, age_factor, zone_factor}
 use Rattle.locomotives.specs.declared.rule.Modes.{Modes}
-use Rattle.locomotives.specs.declared.rule.AllModes.{AllModes}
 
 -- kilograms per hour, in thousandths
 abbrev pub hourly_parts : Locomotive → ℕ → ℕ → ℕ
 hourly_parts l p k = parts_of 1000 (hourly_at l p k)
 
 -- a model's rates, those of each substance in its modes
-unfoldable pub hourly_of : ℕ → List ℕ
-hourly_of model = list_to (substance_count * mode_count) (λ (i : ℕ). parts_of 1000 (get_or table21 (place_in model 0 i) (whole 0)))
+unfoldable pub hourly_of : ℕ → List (List ℕ)
+hourly_of model =
+    list_to substance_count (λ (p : ℕ). list_to mode_count (λ (k : ℕ). parts_of 1000 (get_or table21 (place_in model p k) (whole 0))))
 
 -- kilograms per hour of the first n modes by their shares, in millionths
 unfoldable pub mean_parts : Locomotive → ℕ → ℕ → ℕ
@@ -33,8 +33,9 @@ greatest_parts l p (suc k) = if_then_else (eqb (get_or l.shares k 0) 0) (greates
 abbrev pub modes_of : Locomotive → ℕ → ℕ → Modes
 modes_of l p n = record { mean = mean_parts l p n; greatest = greatest_parts l p n }
 
-abbrev pub all_modes : Locomotive → ℕ → AllModes
-all_modes l n = record { co = modes_of l 0 n; no2 = modes_of l 1 n; soot = modes_of l 2 n }
+-- of each substance
+unfoldable pub all_modes : Locomotive → ℕ → List Modes
+all_modes l n = list_to substance_count (λ (p : ℕ). modes_of l p n)
 
 -- one mode more, that has a share
 abbrev pub with_rate : Modes → ℕ → ℕ → Modes

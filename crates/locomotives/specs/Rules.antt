@@ -1,12 +1,13 @@
 -- 02, U1, over table 21 of SO 153-34.02.317-2003 (source document 000, 3.3).
-use Rattle.std.specs.Prelude.{ℕ, zero, suc, ◌+◌, ◌*◌, ◌-◌, List, [], ◌∷◌, ◌++◌, leb, eqb, get_or, length, replicate}
+use Rattle.std.specs.Prelude.{ℕ, zero, suc, ◌+◌, ◌*◌, ◌-◌, List, [], ◌∷◌, ◌++◌, leb, eqb, get_or, length, Result, Ok}
 use Rattle.sums.specs.Choice.{if_then_else, list_to}
 use Rattle.sums.specs.Fraction.{Frac, ◌over◌, whole, ◌⊙◌, ◌per◌, total_to}
-use Rattle.sums.specs.Answer.{Contribution, contribution, no_refusal, refused_by, emitted, no_emission}
+use Rattle.sums.specs.Answer.{Contribution, contribution, refused_by, emitted}
 use Rattle.sums.specs.declared.answer.Emission.{Emission}
+use Rattle.sums.specs.declared.answer.Reason.TheVariants.{OutOfRange, Shares}
+use Rattle.sums.specs.declared.answer.Refusal.{Refusal}
 use Rattle.locomotive_fields.specs.Fields.{mode_count, locomotive_in_range, shares_add_up}
 use Rattle.locomotive_fields.specs.declared.fields.Locomotive.{Locomotive}
-use Rattle.locomotives.specs.declared.rule.LocomotiveAnswer.{LocomotiveAnswer}
 
 -- "CO, NO2 and soot join the sums": 0337, 0301 and 0328 by 01, in the order of table 21
 abbrev pub locomotive_codes : List ℕ
@@ -81,13 +82,14 @@ locomotive_contribution l p = contribution (get_or locomotive_codes p 0) (locomo
 unfoldable pub locomotive_emissions : Locomotive → List Emission
 locomotive_emissions l = list_to substance_count (λ (p : ℕ). emitted (locomotive_contribution l p))
 
--- "14 when a locomotive's shares don't total 1,000, asked after its 9, by its source rule too", "with zero figures and slot 0"; what is not refused is answered
--- exactly (`Bounds.locomotive_exactly`)
-abbrev pub locomotive_refusal : ℕ → LocomotiveAnswer
-locomotive_refusal n = record { verdict = refused_by n; emissions = replicate substance_count no_emission }
+-- what the rule answers: what the locomotive gives, or why it is refused
+abbrev pub LocomotiveAnswer : Type 0
+LocomotiveAnswer = Result (List Emission) Refusal
 
+-- "14 when a locomotive's shares don't total 1,000, asked after its 9, by its source rule too", with "slot 0"; what is not refused is answered
+-- exactly (`Bounds.locomotive_exactly`)
 unfoldable pub locomotive_answer : Locomotive → LocomotiveAnswer
 locomotive_answer l =
     if_then_else (locomotive_in_range l)
-    (if_then_else (shares_add_up l) (record { verdict = no_refusal; emissions = locomotive_emissions l }) (locomotive_refusal 14))
-    (locomotive_refusal 9)
+    (if_then_else (shares_add_up l) (Ok (locomotive_emissions l)) (refused_by Shares))
+    (refused_by OutOfRange)

@@ -4,4 +4,4 @@
 pub mod rule;
 mod table;
 
-pub use rule::{LocomotiveAnswer, SUBSTANCES, locomotive_emissions};
+pub use rule::{SUBSTANCES, locomotive_emissions};

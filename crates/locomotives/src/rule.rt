@@ -1,24 +1,18 @@
 // What a locomotive gives of each substance.
 ghost use Rattle.std.specs.Prelude.{◌≡◌, true, ◌+◌, ◌<◌, ◌≤◌};
 ghost use Rattle.locomotive_fields.specs.Fields.{mode_count, locomotive_in_range};
-ghost use Rattle.locomotives.specs.Rules.{substance_count, locomotive_emissions, locomotive_refusal, locomotive_answer};
+ghost use Rattle.locomotives.specs.Rules.{substance_count, locomotive_emissions, locomotive_answer};
 ghost use Rattle.locomotives.specs.Parts.{hourly_of, all_modes, with_rate, hour_parts, emission_parts};
 
 use super::table;
-use super::table::RATES;
+use super::table::Rates;
 use locomotive_fields::{Locomotive, MODES};
-use sums::{AnnualSum, Emission, PeakSum, Verdict};
+use sums::{AnnualSum, Emission, PeakSum, Reason, Refusal};
 
 // How many emissions a locomotive's answer holds: CO, NO2, soot.
 pub const SUBSTANCES: usize = 3;
 
 const CODES: [u16; SUBSTANCES] = [337, 301, 328];
-
-#[derive(Clone, Copy)]
-pub struct LocomotiveAnswer {
-    pub verdict: Verdict,
-    pub emissions: [Emission; SUBSTANCES],
-}
 
 // Kilograms per hour of the modes: by their shares, in millionths, and the greatest of those with a share, in thousandths.
 #[derive(Clone, Copy)]
@@ -27,44 +21,36 @@ pub(crate) struct Modes {
     pub(crate) greatest: u64,
 }
 
-// Of each substance.
-#[derive(Clone, Copy)]
-pub(crate) struct AllModes {
-    pub(crate) co: Modes,
-    pub(crate) no2: Modes,
-    pub(crate) soot: Modes,
-}
-
 // One mode more, that has a share: its rate of one substance.
 fn with_rate(m: Modes, rate: u64, share: u16) -> Modes
     requires { (m.mean ≤ 1000000000000) × (rate ≤ 15210) }
     ensures { result ≡ with_rate m rate share }
 {
     Modes {
-        mean: m.mean + rate * share as u64,
-        greatest: if m.greatest <= rate { rate } else { m.greatest },
+        mean: m.mean + rate * u64::from(share),
+        greatest: m.greatest.max(rate),
     }
 }
 
-// One mode more of each substance; without a share it adds nothing.
+// One mode more of each substance, three calls, since a closure over the modes and their rates by place is no plainer. Without a share it adds
+// nothing.
 #[tactic(auto, using(crate::proofs::Modes::without_share))]
-fn with_mode(l: Locomotive, rates: [u64; RATES], m: AllModes, k: usize) -> AllModes
+fn with_mode(l: Locomotive, rates: Rates, m: [Modes; SUBSTANCES], k: usize) -> [Modes; SUBSTANCES]
     requires { (locomotive_in_range l ≡ true) × (rates ≡ hourly_of l.model) × (m ≡ all_modes l k) × (k < mode_count) }
     ensures { result ≡ all_modes l (k + 1) }
 {
-    let shares = l.shares;
-    let share = shares[k];
+    let share = l.shares[k];
     if share == 0 {
         return m;
     }
-    AllModes {
-        co: with_rate(m.co, rates[k], share),
-        no2: with_rate(m.no2, rates[MODES + k], share),
-        soot: with_rate(m.soot, rates[2 * MODES + k], share),
-    }
+    [
+        with_rate(m[0], rates[0][k], share),
+        with_rate(m[1], rates[1][k], share),
+        with_rate(m[2], rates[2][k], share),
+    ]
 }
 
-fn modes_of(l: Locomotive) -> AllModes
+fn modes_of(l: Locomotive) -> [Modes; SUBSTANCES]
     requires { locomotive_in_range l ≡ true }
     ensures { result ≡ all_modes l mode_count }
 {
@@ -73,15 +59,11 @@ fn modes_of(l: Locomotive) -> AllModes
         mean: 0,
         greatest: 0,
     };
-    let mut m = AllModes {
-        co: none,
-        no2: none,
-        soot: none,
-    };
-    let mut k = 0;
-    while k < MODES {
-        m = with_mode(l, rates, m, k);
-        k += 1;
+    let mut m = [none; SUBSTANCES];
+    for k in 0..MODES {
+        // A name of its own, since the borrow checker does not cover an array that a call's result is laid in.
+        let more = with_mode(l, rates, m, k);
+        m = more;
     }
     m
 }
@@ -91,7 +73,7 @@ fn hours_of(l: Locomotive) -> u64
     requires { locomotive_in_range l ≡ true }
     ensures { result ≡ hour_parts l }
 {
-    l.hours as u64 * table::age_factor(l.old) * table::zone_factor(l.zone) * 7
+    u64::from(l.hours) * table::age_factor(l.old) * table::zone_factor(l.zone) * 7
 }
 
 // Exact units in a 1,000,000,000,000th of a tonne, and in a 3,600th of a gram per second: 20,000,000 and 200,000,000,000.
@@ -119,38 +101,21 @@ fn emissions_of(l: Locomotive) -> [Emission; SUBSTANCES]
     let hours = hours_of(l);
     let modes = modes_of(l);
     [
-        emission_of(0, modes.co, hours),
-        emission_of(1, modes.no2, hours),
-        emission_of(2, modes.soot, hours),
+        emission_of(0, modes[0], hours),
+        emission_of(1, modes[1], hours),
+        emission_of(2, modes[2], hours),
     ]
 }
 
-impl LocomotiveAnswer {
-    // A refusal at slot 0, "with zero figures".
-    pub(crate) fn refusal(number: u8) -> Self
-        ensures { result ≡ locomotive_refusal number }
-    {
-        Self {
-            verdict: Verdict { number, slot: 0 },
-            emissions: [Emission::none(); SUBSTANCES],
-        }
-    }
-}
-
 #[tactic(auto, unfolding(crate::specs::Rules::locomotive_answer, sums::specs::Choice::if_then_else))]
-pub fn locomotive_emissions(l: Locomotive) -> LocomotiveAnswer
+pub fn locomotive_emissions(l: Locomotive) -> Result<[Emission; SUBSTANCES], Refusal>
     ensures { result ≡ locomotive_answer l }
 {
-    if locomotive_fields::locomotive_in_range(l) {
-        if locomotive_fields::shares_add_up(l) {
-            LocomotiveAnswer {
-                verdict: Verdict { number: 0, slot: 0 },
-                emissions: emissions_of(l),
-            }
-        } else {
-            LocomotiveAnswer::refusal(14)
-        }
-    } else {
-        LocomotiveAnswer::refusal(9)
+    if !locomotive_fields::locomotive_in_range(l) {
+        return Err(Refusal::of_source(Reason::OutOfRange));
     }
+    if !locomotive_fields::shares_add_up(l) {
+        return Err(Refusal::of_source(Reason::Shares));
+    }
+    Ok(emissions_of(l))
 }

@@ -7,29 +7,37 @@ ghost use Rattle.locomotives.specs.Parts.{hourly_of};
 use super::rule::SUBSTANCES;
 use locomotive_fields::MODES;
 
-// How many rates a model has: CO, NO2 and soot, each in the five modes.
-pub(crate) const RATES: usize = SUBSTANCES * MODES;
+// A model's rates in thousandths of a kilogram per hour: of CO, NO2 and soot, each in the five modes.
+pub(crate) type Rates = [[u64; MODES]; SUBSTANCES];
 
-// Table 21, a model's rates in thousandths of a kilogram per hour.
-const TGM6: [u64; RATES] = [
-    840, 920, 1_360, 2_090, 4_130, 4_110, 9_860, 11_370, 13_040, 15_210, 20, 60, 180, 290, 380,
+// Table 21.
+const TGM6: Rates = [
+    [840, 920, 1_360, 2_090, 4_130],
+    [4_110, 9_860, 11_370, 13_040, 15_210],
+    [20, 60, 180, 290, 380],
 ];
 
-const TGM4: [u64; RATES] = [
-    640, 750, 930, 1_280, 2_630, 1_500, 2_990, 5_240, 6_000, 7_020, 10, 60, 170, 220, 230,
+const TGM4: Rates = [
+    [640, 750, 930, 1_280, 2_630],
+    [1_500, 2_990, 5_240, 6_000, 7_020],
+    [10, 60, 170, 220, 230],
 ];
 
-const TGM3: [u64; RATES] = [
-    540, 580, 910, 1_340, 2_660, 2_060, 4_010, 7_220, 8_240, 9_210, 10, 30, 130, 150, 260,
+const TGM3: Rates = [
+    [540, 580, 910, 1_340, 2_660],
+    [2_060, 4_010, 7_220, 8_240, 9_210],
+    [10, 30, 130, 150, 260],
 ];
 
-const TU4: [u64; RATES] = [
-    170, 220, 280, 390, 780, 450, 880, 1_540, 1_750, 2_010, 4, 20, 50, 60, 70,
+const TU4: Rates = [
+    [170, 220, 280, 390, 780],
+    [450, 880, 1_540, 1_750, 2_010],
+    [4, 20, 50, 60, 70],
 ];
 
 // A model's rates. The compiler keeps what a `match` chooses from in memory; a table indexed by the model would be built anew for each locomotive. No other model is
 // in range.
-pub(crate) fn rates(model: u8) -> [u64; RATES]
+pub(crate) fn rates(model: u8) -> Rates
     requires { (1 ≤ model) × (model ≤ 4) }
     ensures { result ≡ hourly_of model }
 {
@@ -38,7 +46,7 @@ pub(crate) fn rates(model: u8) -> [u64; RATES]
         2 => TGM4,
         3 => TGM3,
         4 => TU4,
-        _ => [0; RATES],
+        _ => [[0; MODES]; SUBSTANCES],
     }
 }
 

@@ -1,165 +1,110 @@
--- What a list of questions is told, by an answer at hand and along an append of lists. Assumes nothing.
-use Rattle.std.proofs.Common.{ℕ, ◌+◌, ◌<◌, ◌≤◌, arith, ◌≡◌, refl, sym, ap, ◌∙◌, Bool, true, false, ◌&&◌, not, List, [], ◌∷◌, ◌++◌, ltb, eqb, get_or, ltb-true, eq-eqb, ne_eqb}
-use native.Mathlib.Decide.{dec_lt}
+-- What a list of questions is told, and what the questions of a link and of the slot that it leads to are by the slot's mark and its read. Assumes nothing.
+use Rattle.std.proofs.Common.{ℕ, ◌<◌, ◌≤◌, arith, ◌≡◌, refl, sym, ap, ◌∙◌, Bool, true, false, ◌&&◌, not, List, [], ◌∷◌, ltb, get_or, ltb-true, Result, Ok, Err}
+use Rattle.std.specs.Prelude.{IsErr, IsErrAnd}
+use Rattle.std.proofs.lemmas.Result.{IfOk-at_ok, err_from_is_err_and}
 use Rattle.sums.specs.Choice.{if_then_else}
-use Rattle.sums.specs.declared.answer.Verdict.{Verdict}
-use Rattle.sums.proofs.Choices.{left, right}
-use Rattle.slots.specs.Bytes.{slot_of, number_of}
-use Rattle.slots.specs.Layout.{coefficients_read}
-use Rattle.slots.specs.declared.coefficients.CoefficientsRead.{CoefficientsRead}
-use Rattle.slot_file.specs.Sources.{coefficient_slot}
-use Rattle.slot_file.specs.Questions.{most_slots, Question, question, slot_count, member, link_asks, coefficient_holder, coefficient_asks}
+use Rattle.sums.specs.declared.answer.Reason.{Reason}
+use Rattle.sums.specs.declared.answer.Reason.TheVariants.{LinkPastEnd, Repeated}
+use Rattle.sums.specs.declared.answer.Refusal.{Refusal}
+use Rattle.slots.specs.Layout.{slot_read}
+use Rattle.slot_file.specs.Questions.{most_slots, Question, question, slot_count, member, slot_asks, link_asks}
 use Rattle.slot_file.specs.Meaning.{AllYes, FirstNo, here, later}
-use Rattle.slot_file.proofs.Asking.{all_append, no_before, no_after}
+use Rattle.slot_file.proofs.Asking.{split, none, all_append, no_before, no_after}
 use Rattle.slot_file.proofs.Marks.{marks_member}
-use Rattle.slot_file.proofs.Numbers.{numbered}
 use Rattle.slot_file.specs.Parts.{marks_of}
-use Rattle.questions.specs.Told.{told_by, asked, Told, link_asked, row_asked}
+use Rattle.questions.specs.Told.{told_by, Told, at_slot, link_asked}
 
-pub told_no : {qs : List Question} {v : Verdict} (n k : ℕ) → v ≡ record { number = n; slot = k } → (n ≡ 0 → ⊥) → FirstNo qs n k → Told qs v
-told_no n k e z f = rw e (record { all = λ y. absurd (z y); first = λ _. f })
+-- one question more in front
+told_more : (q : Question) (qs : List Question) (r : Result Unit Refusal) → q.yes ≡ true → Told qs r → Told (q ∷ qs) r
+told_more q qs (Ok u) y t = (y, t)
+told_more q qs (Err e) y t = later q qs y t
 
-pub told_yes : {qs : List Question} {v : Verdict} → v ≡ record { number = 0; slot = 0 } → AllYes qs → Told qs v
-told_yes e a = rw e (record { all = λ _. a; first = λ z. absurd (z refl) })
-
--- along an append of lists
-pub told_before : {v : Verdict} (xs ys : List Question) → Told xs v → (v.number ≡ 0 → ⊥) → Told (xs ++ ys) v
-told_before xs ys t z = record { all = λ y. absurd (z y); first = λ _. no_before xs ys (t.first z) }
-
-pub told_after : {v : Verdict} (xs ys : List Question) → AllYes xs → Told ys v → Told (xs ++ ys) v
-told_after xs ys a t = record { all = λ y. all_append xs ys a (t.all y); first = λ z. no_after xs ys a (t.first z) }
-
--- one question more, where b is its answer if nothing was refused before it
-pub told_ask : {qs : List Question} (v : Verdict) {r : Verdict} (b answer : Bool) (n k : ℕ) → 0 < n → Told qs v → (v.number ≡ 0 → b ≡ answer)
-    → r ≡ asked v (question b n k) → Told (qs ++ question answer n k ∷ []) r
-unfolding asked if_then_else
-told_ask {qs} v {r} b answer n k z t e p = elim (dec_lt 0 v.number) [
-  | yes l ↦ (let w : v.number ≡ 0 → ⊥ = λ y. omega arith in rw (simp (ne_eqb v.number 0 w) at p) (told_before qs (question answer n k ∷ []) t w))
-  | no l ↦ (let y : v.number ≡ 0 = omega arith in zero y b (e y) (simp (eq-eqb v.number 0 y) at p))
-]
+pub told_by_lem : (qs : List Question) → Told qs (told_by qs)
+unfolding told_by if_then_else
+told_by_lem [] = tt
+told_by_lem (q ∷ qs) = go (told_by_lem qs) q.yes refl
   where
-    zero : v.number ≡ 0 → (b : Bool) → b ≡ answer → r ≡ if_then_else (not b) (record { number = n; slot = k }) v → Told (qs ++ question answer n k ∷ []) r
-    zero y true e p = rw p (record { all = λ _. all_append qs _ (t.all y) (sym e, tt); first = λ w. absurd (w y) })
-    zero y false e p = told_no n k p (λ i. omega arith) (no_after qs _ (t.all y) (here _ [] (sym e)))
+    go : Told qs (told_by qs) → (b : Bool) → q.yes ≡ b → Told (q ∷ qs) (if_then_else b (told_by qs) (Err q.refusal))
+    go t true y = told_more q qs (told_by qs) y t
+    go t false y = here q qs y
 
--- where nothing is refused by a question, nothing was refused before it
-pub asked_zero : (v : Verdict) {r : Verdict} (q : Question) → r ≡ asked v q → r.number ≡ 0 → v.number ≡ 0
-unfolding asked if_then_else
-asked_zero v q p y = elim (dec_lt 0 v.number) [
-  | yes l ↦ (let w : v.number ≡ 0 → ⊥ = λ z. omega arith in sym (ap (λ (x : Verdict). x.number) (simp (ne_eqb v.number 0 w) at p)) ∙ y)
-  | no l ↦ omega arith
-]
+-- where nothing is refused, and where something is
+pub told_ok : (qs : List Question) {r : Result Unit Refusal} {u : Unit} → r ≡ told_by qs → r ≡ Ok u → AllYes qs
+told_ok qs t w = rw (sym t ∙ w) at (told_by_lem qs)
+
+pub told_err : (qs : List Question) {r : Result Unit Refusal} {e : Refusal} → r ≡ told_by qs → r ≡ Err e → FirstNo qs e
+told_err qs t w = rw (sym t ∙ w) at (told_by_lem qs)
+
+-- what a `?` hands on is the refusal that it met
+pub handed_on : {A : Type 0} (P : Result A Refusal → Type 0) {r : Result A Refusal} {e : Refusal} → IsErr r × IsErrAnd r (λ y. y ≡ e) → P (Err e) → P r
+handed_on P {r} h p = let q = err_from_is_err_and r h.1 in rw (q.1, q.2) p
 
 -- a mark says whether its slot is among those that the marks are of
 pub marked : (before : List ℕ) {marks : List Bool} (k : ℕ) {t : Bool} → marks ≡ marks_of before → (k ≡ 0 → ⊥) → k < most_slots → get_or marks k false ≡ t → member k before ≡ t
 marked before k m z h e = sym (marks_member before k (omega arith) h) ∙ ap (λ (l : List Bool). get_or l k false) (sym m) ∙ e
 
--- the number of a slot's read answers question 8, and where that is yes question 9
-pub kind_told : {n : ℕ} (kind good : Bool) → n ≡ number_of kind good → not (eqb n 8) ≡ kind
-unfolding number_of if_then_else
-kind_told true true e = rw e refl
-kind_told true false e = rw e refl
-kind_told false good e = rw e refl
+-- questions 8 and 9 of a slot are told what its read answers
+slot_told : {A : Type 0} (kind good : Bool) (k : ℕ) (x : A) → Told (slot_asks kind good k) (at_slot k (slot_read kind good x))
+unfolding slot_read if_then_else
+slot_told true true k x = (refl, (refl, tt))
+slot_told true false k x = later _ _ refl (here _ _ refl)
+slot_told false good k x = here _ _ refl
 
-pub good_told : {n : ℕ} (kind good : Bool) → n ≡ number_of kind good → kind ≡ true → not (eqb n 9) ≡ good
-unfolding number_of if_then_else
-good_told true true e k = rw e refl
-good_told true false e k = rw e refl
-good_told false good e k = cc
+slot_value : {A : Type 0} (kind good : Bool) (k : ℕ) (x : A) {y : A} → at_slot k (slot_read kind good x) ≡ Ok y → y ≡ x
+unfolding slot_read if_then_else
+slot_value true true k x e = sym (IfOk-at_ok (λ (z : _). x ≡ z) e refl)
+slot_value true false k x e = absurd (IfOk-at_ok (λ _. ⊥) e tt)
+slot_value false good k x e = absurd (IfOk-at_ok (λ _. ⊥) e tt)
 
--- what the questions qs are told, all of them are: those before qs were answered yes
-pub record Rest (qs whole : List Question) : Type 0 where
-  pub same : told_by whole ≡ told_by qs
+-- a slot that reads is of its kind and good, and its read is what it holds
+module _ {A : Type 0} (kind good : Bool) (k : ℕ) (x : A) {d : Result A Reason} {r : Result A Refusal} (t : r ≡ at_slot k d) (f : d ≡ slot_read kind good x) where
+  pub slot_ok : {y : A} → r ≡ Ok y → AllYes (slot_asks kind good k) × (y ≡ x)
+  slot_ok w =
+      let e = sym (t ∙ ap (at_slot k) f) ∙ w in
+      (rw e at (slot_told kind good k x), slot_value kind good k x e)
 
-pub rest_whole : {qs : List Question} → Rest qs qs
-rest_whole = record { same = refl }
+  pub slot_err : {e : Refusal} → r ≡ Err e → FirstNo (slot_asks kind good k) e
+  slot_err w = rw (sym (t ∙ ap (at_slot k) f) ∙ w) at (slot_told kind good k x)
 
-pub rest_on : {q : Question} {qs whole : List Question} → q.yes ≡ true → Rest (q ∷ qs) whole → Rest qs whole
-unfolding told_by if_then_else
-rest_on {q} {qs} e r = record { same = r.same ∙ ap (λ (b : Bool). if_then_else b (told_by qs) (record { number = q.number; slot = q.slot })) e }
+-- questions 6 and 7 of a link whose slot is known by the marks of the slots before it
+abbrev pub two_asks : List ℕ → ℕ → List ℕ → ℕ → List Question
+two_asks s holder before k = question (ltb k (slot_count s)) LinkPastEnd holder ∷ question (not (member k before)) Repeated k ∷ []
 
--- the next one is answered no, and all are answered yes
-pub told_here : {q : Question} {qs whole : List Question} {v : Verdict} → v ≡ record { number = q.number; slot = q.slot } → q.yes ≡ false → Rest (q ∷ qs) whole → v ≡ told_by whole
-unfolding told_by if_then_else
-told_here {q} {qs} e n r = e ∙ sym (r.same ∙ ap (λ (b : Bool). if_then_else b (told_by qs) (record { number = q.number; slot = q.slot })) n)
+two_same : (q p o : Question) → p.refusal ≡ o.refusal → (q.yes ≡ true → p.yes ≡ o.yes) → (r : Result Unit Refusal) → Told (q ∷ p ∷ []) r → Told (q ∷ o ∷ []) r
+two_same q p o f h (Ok u) t = (t.0, (sym (h t.0) ∙ t.1.0, tt))
+two_same q p o f h (Err e) t =
+    split q (p ∷ []) e t (λ n d. rw d (here q (o ∷ []) n)) (λ y g.
+    later q (o ∷ []) y (split p [] e g (λ n d. rw (d, f) (here o [] (sym (h y) ∙ n))) (λ _ i. none e i)))
 
-pub told_all : {whole : List Question} {v : Verdict} → v ≡ record { number = 0; slot = 0 } → Rest [] whole → v ≡ told_by whole
-unfolding told_by
-told_all e r = e ∙ sym r.same
+-- questions 6 and 7 of a link, whose slot is known by the marks of the slots before it, and which the slot `last` holds
+module _ (s before : List ℕ) (marks : List Bool) {known : Bool} {holder last : ℕ} (k : ℕ) (l : slot_count s ≤ most_slots) (w : known ≡ (ltb k (slot_count s) && get_or marks k false))
+    (m : marks ≡ marks_of before) (h : holder ≡ last) (z : k ≡ 0 → ⊥) {r : Result Unit Refusal} (t : r ≡ told_by (link_asked s known holder k)) where
+  link_told : Told (two_asks s last before k) r
+  link_told =
+      rw (t, ← h) (two_same _ _ _ refl (λ y.
+      ap not (w ∙ ap (λ (b : Bool). b && get_or marks k false) y ∙ sym (marked before k m z (omega (arith, ltb-true k (slot_count s) y)) refl)))
+      (told_by (link_asked s known holder k)) (told_by_lem (link_asked s known holder k)))
 
--- each question has a number above 0, and so 0 tells that each is answered yes
-pub told_by_lem : (qs : List Question) {v : Verdict} → numbered (ltb 0) qs ≡ true → v ≡ told_by qs → Told qs v
-unfolding told_by if_then_else
-told_by_lem [] n e = told_yes e tt
-told_by_lem (q ∷ qs) {v} n e = go (λ d. told_by_lem qs (right (ltb 0 q.number) (numbered (ltb 0) qs) n) d) q.yes refl e
-  where
-    go : (v ≡ told_by qs → Told qs v) → (b : Bool) → q.yes ≡ b → v ≡ if_then_else b (told_by qs) (record { number = q.number; slot = q.slot }) → Told (q ∷ qs) v
-    go rest true y d = told_after (q ∷ []) qs (y, tt) (rest d)
-    go rest false y d = told_no q.number q.slot d (λ z. omega (arith, ltb-true 0 q.number (left (ltb 0 q.number) (numbered (ltb 0) qs) n), z)) (here q qs y)
+  pub link_ok : {u : Unit} → r ≡ Ok u → AllYes (two_asks s last before k)
+  link_ok e = rw e at link_told
 
--- two lists of the same questions, as long as they are answered yes: what the one is told, the other is
-abbrev pub SameAsks : List Question → List Question → Type 0
-SameAsks [] [] = Unit {0}
-SameAsks [] (p ∷ ps) = ⊥
-SameAsks (q ∷ qs) [] = ⊥
-SameAsks (q ∷ qs) (p ∷ ps) = (q.yes ≡ p.yes) × (q.number ≡ p.number) × (q.slot ≡ p.slot) × (p.yes ≡ true → SameAsks qs ps)
+  pub link_err : {e : Refusal} → r ≡ Err e → FirstNo (two_asks s last before k) e
+  link_err e = rw e at link_told
 
-same_all : (qs ps : List Question) → SameAsks qs ps → AllYes qs → AllYes ps
-same_all [] [] s a = tt
-same_all [] (p ∷ ps) s a = absurd s
-same_all (q ∷ qs) [] s a = absurd s
-same_all (q ∷ qs) (p ∷ ps) s a = let y = sym s.0 ∙ a.0 in (y, same_all qs ps (s.3 y) a.1)
+-- and the slot is one of the file's
+pub link_below : (s : List ℕ) (known : Bool) (holder k : ℕ) {r : Result Unit Refusal} {u : Unit} → r ≡ told_by (link_asked s known holder k) → r ≡ Ok u → k < slot_count s
+link_below s known holder k t e = ltb-true k (slot_count s) (told_ok (link_asked s known holder k) t e).0
 
-same_no : (qs ps : List Question) {n k : ℕ} → SameAsks qs ps → FirstNo qs n k → FirstNo ps n k
-same_no qs [] s (here q rest e) = absurd s
-same_no qs [] s (later q rest e f) = absurd s
-same_no qs (p ∷ ps) s (here q rest e) = rw (s.1, s.2) (here p ps (sym s.0 ∙ e))
-same_no qs (p ∷ ps) s (later q rest e f) = let y = sym s.0 ∙ e in later p ps y (same_no rest ps (s.3 y) f)
+-- all that is asked of a link: of the link itself, and of its slot
+module _ (s before : List ℕ) (holder k : ℕ) (kind good : Bool) where
+  pub no_link : {e : Refusal} → FirstNo (two_asks s holder before k) e → FirstNo (link_asks s holder before k kind good) e
+  unfolding link_asks
+  no_link = no_before (two_asks s holder before k) (slot_asks kind good k)
 
-pub same_told : (qs ps : List Question) {v : Verdict} → SameAsks qs ps → Told qs v → Told ps v
-same_told qs ps s t = record { all = λ y. same_all qs ps s (t.all y); first = λ z. same_no qs ps s (t.first z) }
+  pub no_slot : {e : Refusal} → AllYes (two_asks s holder before k) → FirstNo (slot_asks kind good k) e → FirstNo (link_asks s holder before k kind good) e
+  unfolding link_asks
+  no_slot = no_after (two_asks s holder before k) (slot_asks kind good k)
 
--- of a link whose slot is known by the marks of the slots before it, and whose read is numbered for its kind and its fields
-pub link_told : (s before : List ℕ) (marks : List Bool) (known : Bool) (holder k number : ℕ) {v : Verdict} (kind good : Bool) → slot_count s ≤ most_slots
-    → known ≡ (ltb k (slot_count s) && get_or marks k false) → marks ≡ marks_of before → (k ≡ 0 → ⊥) → number ≡ number_of kind good → v ≡ told_by (link_asked s known holder k number)
-    → Told (link_asks s holder before k kind good) v
-unfolding link_asks
-link_told s before marks known holder k number kind good l w m z e t =
-    same_told (link_asked s known holder k number) (link_asks s holder before k kind good) (
-      refl,
-      refl,
-      refl,
-      λ y. (
-        ap not (w ∙ ap (λ (b : Bool). b && get_or marks k false) y ∙ sym (marked before k m z (omega (arith, ltb-true k (slot_count s) y)) refl)),
-        refl,
-        refl,
-        λ _. (kind_told kind good e, refl, refl, λ r. (good_told kind good e r, refl, refl, λ _. tt)),
-      ),
-    ) (told_by_lem (link_asked s known holder k number) refl t)
-
-pub link_below : (s : List ℕ) (known : Bool) (holder k number : ℕ) {v : Verdict} → v ≡ told_by (link_asked s known holder k number) → v.number ≡ 0 → k < slot_count s
-link_below s known holder k number t y = ltb-true k (slot_count s) ((told_by_lem (link_asked s known holder k number) refl t).all y).0
-
--- of a link to the coefficient slot at place n of a group
-pub row_told : (s : List ℕ) (g n holder k : ℕ) (row : CoefficientsRead) {v : Verdict} → holder ≡ coefficient_holder s g n → k ≡ coefficient_slot s g n
-    → row ≡ coefficients_read (slot_of s k) → v ≡ told_by (row_asked s holder k n row.number row.pollutant) → Told (coefficient_asks s g n) v
-unfolding coefficient_asks coefficients_read
-row_told s g n holder k row h d w t =
-    let e = ap (λ (r : CoefficientsRead). r.number) w in
-    let p = ap (λ (r : CoefficientsRead). eqb r.pollutant (n + 1)) w in
-    rw (← h, ← d) (same_told (row_asked s holder k n row.number row.pollutant) _ (
-      refl,
-      refl,
-      refl,
-      λ _. (
-        refl,
-        refl,
-        refl,
-        λ _. (
-          kind_told _ _ e,
-          refl,
-          refl,
-          λ y. (good_told _ _ e y, refl, refl, λ _. (p, refl, refl, λ _. tt)),
-        ),
-      ),
-    ) (told_by_lem (row_asked s holder k n row.number row.pollutant) refl t))
+  pub all_link : AllYes (two_asks s holder before k) → AllYes (slot_asks kind good k) → AllYes (link_asks s holder before k kind good)
+  unfolding link_asks
+  all_link = all_append (two_asks s holder before k) (slot_asks kind good k)

@@ -1,24 +1,24 @@
-// The questions in order, of what the walk has read: of a list of them, the number and the slot of the first that is answered no, or 0 and 0.
+// The questions in order, of what the walk has read: nothing, or the refusal of the first that is answered no.
 #![tactic(auto)]
 
-ghost use Rattle.std.specs.Prelude.{◌≡◌};
+ghost use Rattle.std.specs.Prelude.{◌≡◌, [], ◌∷◌};
 ghost use Rattle.slot_file.specs.Questions.{question, head_asks_of};
-ghost use Rattle.questions.specs.Told.{told_by, asked, link_asked, row_asked};
+ghost use Rattle.questions.specs.Told.{told_by, at_slot, link_asked, row_asked};
 
 use slot_file::MOST_SLOTS;
 use slots::{Header, SLOT_SIZE};
-use sums::Verdict;
+use sums::{Reason, Refusal};
 
-fn accept() -> Verdict
-    ensures { result ≡ record { number = 0; slot = 0 } }
+// One question, at the slot that its refusal names.
+#[tactic(auto, unfolding(crate::specs::Told::told_by, sums::specs::Choice::if_then_else))]
+pub fn ask(yes: bool, reason: Reason, slot: u16) -> Result<(), Refusal>
+    ensures { result ≡ told_by (question yes reason slot ∷ []) }
 {
-    Verdict { number: 0, slot: 0 }
-}
-
-fn refuse(number: u8, slot: u16) -> Verdict
-    ensures { result ≡ record { number = number; slot = slot } }
-{
-    Verdict { number, slot }
+    if yes {
+        Ok(())
+    } else {
+        Err(Refusal { reason, slot })
+    }
 }
 
 // The bytes of a file at most.
@@ -26,84 +26,57 @@ const MOST_BYTES: usize = SLOT_SIZE * MOST_SLOTS;
 
 // Questions 1 to 5, of the file and its slot 0.
 #[tactic(auto, unfolding(crate::specs::Told::told_by, sums::specs::Choice::if_then_else))]
-pub fn ask_head(file: &[u8], h: Header) -> Verdict
+pub fn ask_head(file: &[u8], h: Header) -> Result<(), Refusal>
     ensures { result ≡ told_by (head_asks_of file.now h) }
 {
     let n = file.len();
-    let whole = (SLOT_SIZE <= n) & (n <= MOST_BYTES) & (n % SLOT_SIZE == 0);
-    if !whole {
-        return refuse(1, 0);
-    }
-    if h.format != 1 {
-        return refuse(2, 0);
-    }
-    if h.count as usize != n / SLOT_SIZE {
-        return refuse(3, 0);
-    }
-    if !h.rest {
-        return refuse(4, 0);
-    }
-    let temperatures = h.temperatures;
-    if !vehicle_fields::temperatures_in_range(temperatures) {
-        return refuse(5, 0);
-    }
-    accept()
+    ask(
+        (SLOT_SIZE <= n) & (n <= MOST_BYTES) & (n % SLOT_SIZE == 0),
+        Reason::Length,
+        0,
+    )?;
+    ask(h.format == 1, Reason::Format, 0)?;
+    ask(h.count as usize == n / SLOT_SIZE, Reason::Count, 0)?;
+    ask(h.rest, Reason::HeaderBytes, 0)?;
+    ask(
+        vehicle_fields::temperatures_in_range(h.temperatures),
+        Reason::Temperatures,
+        0,
+    )
 }
 
-// Questions 6 to 9, of a link to a group, store record or locomotive: whether its slot is a source so far is `known`, and `number` is what the slot's read answers of
-// 8 and 9.
+// Questions 6 and 7, of a link to a group, store record or locomotive: whether its slot is a source so far is `known`. 8 and 9 are answered where the slot is read.
 #[tactic(auto, unfolding(crate::specs::Told::told_by, sums::specs::Choice::if_then_else))]
-pub fn ask_link(file: &[u8], known: bool, holder: u16, link: u16, number: u8) -> Verdict
-    ensures { result ≡ told_by (link_asked file.now known holder link number) }
+pub fn ask_link(file: &[u8], known: bool, holder: u16, link: u16) -> Result<(), Refusal>
+    ensures { result ≡ told_by (link_asked file.now known holder link) }
 {
-    if file.len() / SLOT_SIZE <= link as usize {
-        return refuse(6, holder);
-    }
-    if known {
-        return refuse(7, link);
-    }
-    if number == 8 {
-        return refuse(8, link);
-    }
-    if number == 9 {
-        return refuse(9, link);
-    }
-    accept()
+    ask(
+        (link as usize) < file.len() / SLOT_SIZE,
+        Reason::LinkPastEnd,
+        holder,
+    )?;
+    ask(!known, Reason::Repeated, link)
 }
 
-// Questions 10, 6, 8, 9 and 10, of a link to a group's coefficient slot at a place from 0: `number` is what its read answers of 8 and 9.
+// Questions 8 and 9 of a slot, which its read has answered.
+pub fn ask_slot<T>(read: Result<T, Reason>, slot: u16) -> Result<T, Refusal>
+    ensures { result ≡ at_slot slot read }
+{
+    match read {
+        Ok(content) => Ok(content),
+        Err(reason) => Err(Refusal { reason, slot }),
+    }
+}
+
+// Questions 10 and 6, of a link to a group's coefficient slot.
 #[tactic(auto, unfolding(crate::specs::Told::told_by, sums::specs::Choice::if_then_else))]
-pub fn ask_row(file: &[u8], holder: u16, link: u16, place: u8, number: u8, pollutant: u8) -> Verdict
-    ensures { result ≡ told_by (row_asked file.now holder link place number pollutant) }
+pub fn ask_row(file: &[u8], holder: u16, link: u16) -> Result<(), Refusal>
+    ensures { result ≡ told_by (row_asked file.now holder link) }
 {
-    if link == 0 {
-        return refuse(10, holder);
-    }
-    if file.len() / SLOT_SIZE <= link as usize {
-        return refuse(6, holder);
-    }
-    if number == 8 {
-        return refuse(8, link);
-    }
-    if number == 9 {
-        return refuse(9, link);
-    }
-    if pollutant as u16 != place as u16 + 1 {
-        return refuse(10, link);
-    }
-    accept()
-}
-
-// One question more, where nothing was refused `before` it: 11 of a group, 14 of a locomotive.
-#[tactic(auto, unfolding(crate::specs::Told::asked, sums::specs::Choice::if_then_else))]
-pub fn ask(before: Verdict, yes: bool, number: u8, slot: u16) -> Verdict
-    ensures { result ≡ asked before (question yes number slot) }
-{
-    if before.number != 0 {
-        return before;
-    }
-    if !yes {
-        return refuse(number, slot);
-    }
-    before
+    ask(link != 0, Reason::CoefficientChain, holder)?;
+    ask(
+        (link as usize) < file.len() / SLOT_SIZE,
+        Reason::LinkPastEnd,
+        holder,
+    )
 }

@@ -1,76 +1,114 @@
 // One case: the rule of its kind is asked, and the answer printed.
 ghost use Rattle.std.specs.Prelude.{◌+◌, ◌≤◌};
 
-use super::numbers::{Record, u8_at, u16_at, u32_at, u64_at};
+use super::fields::Record;
+use super::totals::Totals;
 use super::{fields, printing, totals};
+use byteorder::{ByteOrder, LE};
 use std::io::Stdout;
-use stores::StoreAnswer;
 use sums::words::Words;
-use sums::{AnnualSum, Emission, PeakSum};
-use vehicles::EMISSIONS;
+use sums::{Annual, Emission, Peak, Refusal, Sum, Unit};
 
-// What the case adds to the totals.
-pub(crate) fn run(out: &mut Stdout, r: &Record) -> [Emission; EMISSIONS] {
+#[derive(Clone, Copy)]
+enum Kind {
+    Handling,
+    Standing,
+    Aspiration,
+    Group,
+    Sums,
+    Locomotive,
+}
+
+impl From<u8> for Kind {
+    // Sums have 5, and every number that no other kind has.
+    fn from(number: u8) -> Self {
+        match number {
+            1 => Self::Handling,
+            2 => Self::Standing,
+            3 => Self::Aspiration,
+            4 => Self::Group,
+            6 => Self::Locomotive,
+            _ => Self::Sums,
+        }
+    }
+}
+
+// Prints the case's lines, and adds to the totals what it gives so often as it says.
+pub(crate) fn run(out: &mut Stdout, r: &Record, totals: &mut Totals) {
     printing::label(out, r);
-    let times = u16_at(r, 34);
-    let kind = u8_at(r, 32);
-    match kind {
-        1 => store(out, stores::handling_emission(fields::handling(r)), times),
-        2 => store(out, stores::standing_emission(fields::standing(r)), times),
-        3 => store(
+    match Kind::from(r[32]) {
+        Kind::Handling => store(
             out,
-            stores::aspiration_emission(fields::aspiration(r)),
-            times,
+            r,
+            totals,
+            stores::handling_emission(fields::handling(r)),
         ),
-        4 => group(out, r, times),
-        6 => locomotive(out, r, times),
-        _ => both_sums(out, r),
+        Kind::Standing => store(
+            out,
+            r,
+            totals,
+            stores::standing_emission(fields::standing(r)),
+        ),
+        Kind::Aspiration => store(
+            out,
+            r,
+            totals,
+            stores::aspiration_emission(fields::aspiration(r)),
+        ),
+        Kind::Group => group(out, r, totals),
+        Kind::Sums => both_sums(out, r),
+        Kind::Locomotive => locomotive(out, r, totals),
     }
 }
 
-fn store(out: &mut Stdout, answer: StoreAnswer, times: u16) -> [Emission; EMISSIONS] {
-    let verdict = answer.verdict;
-    let e = answer.emission;
-    printing::verdict(out, verdict);
-    printing::emission(out, e);
-    let total = totals::repeated(totals::first(e), times);
-    if times > 0 {
-        printing::added(out, times);
-        printing::sums(out, total[0]);
+fn store(out: &mut Stdout, r: &Record, totals: &mut Totals, answer: Result<Emission, Refusal>) {
+    match answer {
+        Ok(emission) => source(out, r, totals, Ok([emission])),
+        Err(refusal) => source::<1>(out, r, totals, Err(refusal)),
     }
-    total
 }
 
-fn group(out: &mut Stdout, r: &Record, times: u16) -> [Emission; EMISSIONS] {
+fn group(out: &mut Stdout, r: &Record, totals: &mut Totals) {
     let answer = vehicles::group_emissions(
         fields::group(r),
         fields::temperatures(r),
         fields::coefficients(r),
     );
-    let verdict = answer.verdict;
-    let emissions = answer.emissions;
-    printing::verdict(out, verdict);
-    printing::all_emissions(out, emissions);
-    let total = totals::repeated(emissions, times);
-    if times > 0 {
-        printing::added(out, times);
-        printing::all_sums(out, total);
-    }
-    total
+    source(out, r, totals, answer);
 }
 
-fn locomotive(out: &mut Stdout, r: &Record, times: u16) -> [Emission; EMISSIONS] {
+fn locomotive(out: &mut Stdout, r: &Record, totals: &mut Totals) {
     let answer = locomotives::locomotive_emissions(fields::locomotive(r));
-    let verdict = answer.verdict;
-    let emissions = answer.emissions;
-    printing::verdict(out, verdict);
-    printing::three_emissions(out, emissions);
-    let total = totals::repeated(totals::first_three(emissions), times);
+    source(out, r, totals, answer);
+}
+
+// A refused source gives nothing to each of its codes.
+fn source<const N: usize>(
+    out: &mut Stdout,
+    r: &Record,
+    totals: &mut Totals,
+    answer: Result<[Emission; N], Refusal>,
+) {
+    let (refusal, emissions) = match answer {
+        Ok(emissions) => (None, emissions),
+        Err(refusal) => (Some(refusal), [Emission::none(); N]),
+    };
+    printing::verdict(out, refusal);
+    printing::all_emissions(out, &emissions);
+    let times = LE::read_u16(&r[34..]);
     if times > 0 {
         printing::added(out, times);
-        printing::three_sums(out, total);
+        add(out, totals, &emissions, times);
     }
-    total
+}
+
+// Each emission so many times over: a line, and an addend of the total in its place.
+fn add(out: &mut Stdout, totals: &mut Totals, emissions: &[Emission], times: u16) {
+    for (total, e) in totals.iter_mut().zip(emissions) {
+        let sum = totals::repeated(*e, times);
+        printing::sums(out, &sum);
+        *total = totals::plus(*total, sum);
+    }
 }
 
 // The words of a sum, the low one first.
@@ -78,41 +116,25 @@ fn words_at(r: &Record, at: usize) -> Words
     requires { at + 16 ≤ 320 }
 {
     Words {
-        high: u64_at(r, at + 8),
-        low: u64_at(r, at),
+        high: LE::read_u64(&r[at + 8..]),
+        low: LE::read_u64(&r[at..]),
     }
 }
 
-fn both_sums(out: &mut Stdout, r: &Record) -> [Emission; EMISSIONS] {
+fn both_sums(out: &mut Stdout, r: &Record) {
     printing::text(out, b"sums\n");
     let a = words_at(r, 40);
     let b = words_at(r, 56);
-    let k = u32_at(r, 72);
-    annual_sums(out, AnnualSum(a), AnnualSum(b), k);
-    peak_sums(out, PeakSum(a), PeakSum(b), k);
-    totals::zero()
+    let k = LE::read_u32(&r[72..]);
+    sums_of::<Annual>(out, "annual", a, b, k);
+    sums_of::<Peak>(out, "peak", a, b, k);
 }
 
-fn annual_sums(out: &mut Stdout, a: AnnualSum, b: AnnualSum, k: u32) {
-    let m = a.0;
-    printing::text(out, b"annual of ");
-    printing::annual_sum(out, AnnualSum::of(m.low));
-    printing::text(out, b"annual plus ");
-    printing::annual_sum(out, a.plus(b));
-    printing::text(out, b"annual times ");
-    printing::annual_sum(out, a.times(k));
-    printing::text(out, b"annual rounded ");
-    printing::figure(out, a.rounded());
-}
-
-fn peak_sums(out: &mut Stdout, a: PeakSum, b: PeakSum, k: u32) {
-    let m = a.0;
-    printing::text(out, b"peak of ");
-    printing::peak_sum(out, PeakSum::of(m.low));
-    printing::text(out, b"peak plus ");
-    printing::peak_sum(out, a.plus(b));
-    printing::text(out, b"peak times ");
-    printing::peak_sum(out, a.times(k));
-    printing::text(out, b"peak rounded ");
-    printing::figure(out, a.rounded());
+// A word of exact units, two sums added up, a multiple, and a figure, of either kind of sum.
+fn sums_of<U: Unit + Copy>(out: &mut Stdout, kind: &str, a: Words, b: Words, k: u32) {
+    let sum = Sum::<U>::from(a);
+    printing::sum_line(out, kind, "of", Sum::<U>::of(a.low));
+    printing::sum_line(out, kind, "plus", sum.plus(Sum::<U>::from(b)));
+    printing::sum_line(out, kind, "times", sum.times(k));
+    printing::figure(out, kind, sum.rounded());
 }

@@ -11,8 +11,8 @@
 //             54..55 hours
 //     4:      40 category, 41 fuel, 42 control, 43 heated, 44..45 N, 46..47 N', 48 share,
 //             49 neutraliser for run and idle, 50 for warm-up, 52..55 idle time,
-//             56..71 four distances, 72..83 days, 84..107 temperatures (signed),
-//             108..275 six pollutants of seven coefficients
+//             56..59 timed warm-up, 60..75 four distances, 76..87 days, 88..111 temperatures
+//             (signed), 112..279 six pollutants of seven coefficients
 //     5:      40..55 exact units of a sum and 56..71 of another, 72..75 factor
 //     6:      40 model, 41 old, 42 zone, 44..53 five shares, 54..55 hours
 //
@@ -30,53 +30,32 @@
 
 mod case;
 mod fields;
-mod numbers;
 mod printing;
 mod totals;
 
-use std::io::{Read, Stdin, Stdout};
+use fields::Record;
+use std::io::{Read, Stdin};
 use sums::Emission;
 use vehicles::EMISSIONS;
 
-// Whether a record was there, and the totals after it.
-#[derive(Clone, Copy)]
-struct Step {
-    more: bool,
-    totals: [Emission; EMISSIONS],
-}
-
-fn next_case(input: &mut Stdin, out: &mut Stdout, totals: [Emission; EMISSIONS]) -> Step {
-    let mut record = [0u8; 320];
-    if input.read_exact(&mut record).is_err() {
-        return Step {
-            more: false,
-            totals,
-        };
-    }
-    let added = case::run(out, &record);
-    Step {
-        more: true,
-        totals: totals::joined(totals, added),
-    }
+// The next record, if all of it is there.
+fn next_record(input: &mut Stdin) -> Option<Record> {
+    let mut record = [0; 320];
+    input.read_exact(&mut record).ok()?;
+    Some(record)
 }
 
 // Nothing says that the input ends, so the cases are counted, up to a number that no run reaches.
-fn run_all(input: &mut Stdin, out: &mut Stdout) -> [Emission; EMISSIONS] {
-    let mut totals = totals::zero();
-    for _ in 0..u64::MAX {
-        let s = next_case(input, out, totals);
-        if !s.more {
-            return totals;
-        }
-        totals = s.totals;
-    }
-    totals
-}
-
 fn main(rt: HostRuntime) {
     let mut input = rt.stdin();
     let mut out = rt.stdout();
-    let totals = run_all(&mut input, &mut out);
+    let mut totals = [Emission::none(); EMISSIONS];
+    for _ in 0..u64::MAX {
+        let Some(record) = next_record(&mut input) else {
+            break;
+        };
+        case::run(&mut out, &record, &mut totals);
+    }
     printing::text(&mut out, b"totals\n");
-    printing::all_sums(&mut out, totals);
+    printing::all_sums(&mut out, &totals);
 }

@@ -1,7 +1,7 @@
 -- Two accepted files that are alike get the same answers. A figure goes by the number of exact units of its code alone (`Units`), which is a total over
 -- the groups, one over the store records and one over the locomotives, and lists that are alike have the same totals and the same length (`Bag`, `Same`). And the counts are the lengths of the chains. Assumes
 -- nothing.
-use Rattle.std.proofs.Common.{ℕ, ◌*◌, ◌<◌, arith, ◌≡◌, refl, sym, ap, ◌∙◌, List, map, reverse, lit<, ℤ}
+use Rattle.std.proofs.Common.{ℕ, ◌*◌, ◌<◌, arith, ◌≡◌, sym, ap, ◌∙◌, List, map, reverse, lit<, ℤ, Ok}
 use lib.ListN.{length-map, length-reverse}
 use Rattle.sums.specs.Fraction.{Frac, ◌over◌, whole, ◌⊙◌, ◌≈◌, parts_of}
 use Rattle.sums.specs.Figures.{nearest, tonne_parts, gram_parts}
@@ -49,15 +49,13 @@ module _ (v w : Inventory) (e : AlikeFiles v w) where
       let m = alike_length same_store store_sound store_same v.stores w.stores e.stores in
       let l = alike_length same_locomotive locomotive_sound locomotive_same v.locomotives w.locomotives e.locomotives in
       λ i. record {
-        number = 0;
-        slot = 0;
         annual = map (λ (c : ℕ). a c i) codes;
         peak = map (λ (c : ℕ). p c i) codes;
         counts = record { groups = n i; stores = m i; locomotives = l i };
       }
 
 -- the answer to an accepted file
-pub accepted_answer : (s : List ℕ) (c : Chains) → outcome s ≡ accepted c → answer s ≡ summed (inventory_at s c)
+pub accepted_answer : (s : List ℕ) (c : Chains) → outcome s ≡ accepted c → answer s ≡ Ok (summed (inventory_at s c))
 unfolding answer answered
 accepted_answer s c e = rw e
 
@@ -69,7 +67,3 @@ summed_counts s c =
     let k = length-map (reverse c.stores) (store_at s) ∙ length-reverse c.stores in
     let l = length-map (reverse c.locomotives) (locomotive_at s) ∙ length-reverse c.locomotives in
     λ i. record { groups = g i; stores = k i; locomotives = l i }
-
-pub summed_zero : (v : Inventory) → ((summed v).number ≡ 0) × ((summed v).slot ≡ 0)
-unfolding summed
-summed_zero v = (refl, refl)

@@ -2,6 +2,7 @@
 -- nothing.
 use Rattle.std.proofs.Common.{ℕ, zero, suc, ◌≡◌, refl, Bool, true, false, List, [], ◌∷◌, ◌++◌}
 use Rattle.sums.specs.Choice.{if_then_else}
+use Rattle.sums.specs.declared.answer.Refusal.{Refusal}
 use Rattle.slot_file.specs.Questions.{Question, Outcome, refused}
 use Rattle.slot_file.specs.Walk.{first}
 use Rattle.slot_file.specs.Meaning.{asked_at, AllYes, FirstNo, here, later}
@@ -11,20 +12,28 @@ unfolding first if_then_else
 first_yes [] v h = refl
 first_yes (q ∷ qs) v h = simp h.0 (first_yes qs v h.1)
 
-pub first_no : (qs : List Question) (v : Outcome) (n k : ℕ) → FirstNo qs n k → first qs v ≡ refused n k
+pub first_no : (qs : List Question) (v : Outcome) (r : Refusal) → FirstNo qs r → first qs v ≡ refused r
 unfolding first if_then_else
-first_no qs v n k (here q rest e) = simp e
-first_no qs v n k (later q rest e h) = simp e (first_no rest v n k h)
+first_no qs v r (here q rest e) = simp e
+first_no qs v r (later q rest e h) = simp e (first_no rest v r h)
 
 -- what holds where all are answered yes, and where the first no is known, holds of the outcome
-pub first_both : (P : Outcome → Type 0) (qs : List Question) (v : Outcome) → ((n k : ℕ) → FirstNo qs n k → P (refused n k)) → (AllYes qs → P v) → P (first qs v)
+pub first_both : (P : Outcome → Type 0) (qs : List Question) (v : Outcome) → ((r : Refusal) → FirstNo qs r → P (refused r)) → (AllYes qs → P v) → P (first qs v)
 unfolding first if_then_else
 first_both P [] v h k = k tt
 first_both P (q ∷ qs) v h k = go q.yes refl (first_both P qs v)
   where
-    go : (t : Bool) → q.yes ≡ t → (((n k : ℕ) → FirstNo qs n k → P (refused n k)) → (AllYes qs → P v) → P (first qs v)) → P (if_then_else t (first qs v) (refused q.number q.slot))
-    go true e ih = ih (λ n j f. h n j (later q qs e f)) (λ a. k (e, a))
-    go false e ih = h q.number q.slot (here q qs e)
+    go : (t : Bool) → q.yes ≡ t → (((r : Refusal) → FirstNo qs r → P (refused r)) → (AllYes qs → P v) → P (first qs v)) → P (if_then_else t (first qs v) (refused q.refusal))
+    go true e ih = ih (λ r f. h r (later q qs e f)) (λ a. k (e, a))
+    go false e ih = h q.refusal (here q qs e)
+
+-- a first no is the head, or in the tail
+pub split : {P : Type 0} (q : Question) (qs : List Question) (r : Refusal) → FirstNo (q ∷ qs) r → (q.yes ≡ false → r ≡ q.refusal → P) → (q.yes ≡ true → FirstNo qs r → P) → P
+split q qs r (here _ _ e) f g = f e refl
+split q qs r (later _ _ e h) f g = g e h
+
+pub none : {P : Type 0} (r : Refusal) → FirstNo [] r → P
+none r = elim [ ]
 
 pub yes_at : (qs : List Question) → AllYes qs → (n : ℕ) → (asked_at qs n).yes ≡ true
 yes_at [] a n = refl
@@ -44,10 +53,10 @@ pub all_right : (xs ys : List Question) → AllYes (xs ++ ys) → AllYes ys
 all_right [] ys a = a
 all_right (x ∷ xs) ys a = all_right xs ys a.1
 
-pub no_before : {n k : ℕ} (xs ys : List Question) → FirstNo xs n k → FirstNo (xs ++ ys) n k
+pub no_before : {r : Refusal} (xs ys : List Question) → FirstNo xs r → FirstNo (xs ++ ys) r
 no_before xs ys (here q qs e) = here q (qs ++ ys) e
 no_before xs ys (later q qs e f) = later q (qs ++ ys) e (no_before qs ys f)
 
-pub no_after : {n k : ℕ} (xs ys : List Question) → AllYes xs → FirstNo ys n k → FirstNo (xs ++ ys) n k
+pub no_after : {r : Refusal} (xs ys : List Question) → AllYes xs → FirstNo ys r → FirstNo (xs ++ ys) r
 no_after [] ys a f = f
 no_after (x ∷ xs) ys a f = later x (xs ++ ys) a.0 (no_after xs ys a.1 f)

@@ -1,8 +1,10 @@
 -- A file with zeros in 32..33 is answered as before, but for the third count: its locomotive chain ends where it begins, so the walk is 01's, and nothing is summed
 -- behind the store records. Assumes nothing.
-use Rattle.std.proofs.Common.{ℕ, arith, ◌≡◌, refl, sym, ap, ◌∙◌, List, [], append-nil}
+use Rattle.std.proofs.Common.{ℕ, arith, ◌≡◌, refl, sym, ap, ◌∙◌, List, [], append-nil, Result, Ok}
 use Rattle.slots.specs.Bytes.{byte_at, u16_at, zero_from, slot_of}
 use Rattle.slots.specs.Layout.{header_of}
+use Rattle.sums.specs.declared.answer.Refusal.{Refusal}
+use Rattle.slot_file.specs.declared.Answer.{Answer}
 use Rattle.slot_file.specs.Sources.{header_at, Chains, inventory_at}
 use Rattle.slot_file.specs.Questions.{most_slots, head_asks, head_asks_of, groups_so_far, stores_so_far, locomotives_so_far, group_asks, store_asks, locomotive_asks, Outcome, accepted, refused}
 use Rattle.slot_file.specs.Walk.{first, chain, after_all, locomotive_walk, store_walk, group_walk, outcome}
@@ -45,7 +47,7 @@ module _ (s : List ℕ) (e : (header_at s).heads.locomotives ≡ 0) where
   none_on_it : (c : Chains) → Accepts s c → c.locomotives ≡ []
   none_on_it c a = one_chain s (header_at s).heads.locomotives c.locomotives [] a.locomotives.chain (sym e)
 
-  summed_before : (c : Chains) → c.locomotives ≡ [] → summed (inventory_at s c) ≡ answered_before s (accepted c)
+  summed_before : (c : Chains) → c.locomotives ≡ [] → ◌≡◌ {A = Result Answer Refusal} (Ok (summed (inventory_at s c))) (answered_before s (accepted c))
   unfolding summed inventory_at contributions gathered
   summed_before c n = rw (n, append-nil)
 
@@ -56,4 +58,4 @@ module _ (s : List ℕ) (e : (header_at s).heads.locomotives ≡ 0) where
     where
       go : (v : Outcome) → outcome s ≡ v → answered s v ≡ answered_before s v
       go (accepted c) w = summed_before c (none_on_it c ((exactly_when s (accepted c)).0 w))
-      go (refused n k) w = refl
+      go (refused r) w = refl

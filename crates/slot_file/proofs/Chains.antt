@@ -5,6 +5,7 @@ use native.Mathlib.Decide.{dec_lt}
 use borrow.Author.Tests.{eqb-false}
 use Rattle.slots.specs.Bytes.{slot_of}
 use Rattle.slots.specs.Layout.{next_of}
+use Rattle.sums.specs.declared.answer.Refusal.{Refusal}
 use Rattle.slot_file.specs.Questions.{most_slots, Question, Outcome, refused}
 use Rattle.slot_file.specs.Walk.{first}
 use Rattle.slot_file.specs.Meaning.{FirstNo, Chain, Reached}
@@ -39,10 +40,10 @@ module _ (s : List ℕ) (from : ℕ) where
 pub record Walks (asks : List ℕ → ℕ → List Question) (s : List ℕ) (from : ℕ) (whole : Outcome) (end : List ℕ → Outcome) : Type 1 where
   -- what holds of each refusal and of each end holds of the whole
   pub both : (P : Outcome → Type 0)
-      → ((b : List ℕ) (k : ℕ) → Reached asks s from b k → (k ≡ 0 → ⊥) → (n j : ℕ) → FirstNo (asks b k) n j → P (refused n j))
+      → ((b : List ℕ) (k : ℕ) → Reached asks s from b k → (k ≡ 0 → ⊥) → (r : Refusal) → FirstNo (asks b k) r → P (refused r))
       → ((b : List ℕ) → Reached asks s from b 0 → P (end b))
       → P whole
-  pub at_no : (b : List ℕ) (k : ℕ) → Reached asks s from b k → (k ≡ 0 → ⊥) → (n j : ℕ) → FirstNo (asks b k) n j → whole ≡ refused n j
+  pub at_no : (b : List ℕ) (k : ℕ) → Reached asks s from b k → (k ≡ 0 → ⊥) → (r : Refusal) → FirstNo (asks b k) r → whole ≡ refused r
   pub at_end : (b : List ℕ) → Reached asks s from b 0 → whole ≡ end b
 
 -- out n b link is the outcome with n links left, from `link` on, after the slots of b
@@ -52,7 +53,7 @@ module _ (asks : List ℕ → ℕ → List Question) (s : List ℕ) (from : ℕ)
     (short : (b : List ℕ) (link : ℕ) → Reached asks s from b link → length b < most_slots)
   where
     walk_all : (P : Outcome → Type 0)
-        → ((b : List ℕ) (k : ℕ) → Reached asks s from b k → (k ≡ 0 → ⊥) → (n j : ℕ) → FirstNo (asks b k) n j → P (refused n j))
+        → ((b : List ℕ) (k : ℕ) → Reached asks s from b k → (k ≡ 0 → ⊥) → (r : Refusal) → FirstNo (asks b k) r → P (refused r))
         → ((b : List ℕ) → Reached asks s from b 0 → P (end b))
         → (n : ℕ) (b : List ℕ) (link : ℕ) → n + length b ≡ most_slots → Reached asks s from b link → P (out n b link)
     walk_all P no-at end-at zero b link h w = absurd (omega (arith, short b link w))
@@ -80,10 +81,10 @@ module _ (asks : List ℕ → ℕ → List Question) (s : List ℕ) (from : ℕ)
     pub walks : Walks asks s from (out most_slots [] from) end
     walks = record {
       both = λ P no-at end-at. walk_all P no-at end-at most_slots [] from refl (record { chain = refl; good = tt });
-      at_no = λ b k w z n j f.
+      at_no = λ b k w z r f.
           let m = most_slots - 1 - length b in
           let h = short b k w in
-          follows b k (suc m) most_slots (omega arith) w ∙ turn m b k z ∙ first_no (asks b k) (out m (k ∷ b) (next_of (slot_of s k))) n j f;
+          follows b k (suc m) most_slots (omega arith) w ∙ turn m b k z ∙ first_no (asks b k) (out m (k ∷ b) (next_of (slot_of s k))) r f;
       at_end = λ b w.
           let m = most_slots - 1 - length b in
           let h = short b 0 w in

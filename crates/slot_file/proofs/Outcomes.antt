@@ -105,22 +105,22 @@ module _ (s : List ℕ) (h : AllYes (head_asks s)) where
 pub says : (s : List ℕ) → Means s (outcome s)
 unfolding outcome
 says s =
-    first_both (Means s) (head_asks s) (group_walk s) (λ n k f. at_head f) (λ h.
-    (group_walk_lem s h).both (Means s) (λ b k w z n j f. at_group (groups_so_far b) k h w z f) (λ gs v.
-    (store_walk_lem s h (groups_so_far gs) v).both (Means s) (λ b k w z n j f. at_store (stores_so_far (groups_so_far gs) b) k h v w z f) (λ ss w.
-    (locomotive_walk_lem s h (stores_so_far (groups_so_far gs) ss) v w).both (Means s) (λ b k u z n j f. at_locomotive (locomotives_so_far (stores_so_far (groups_so_far gs) ss) b) k h v w u z f) (λ ls u.
+    first_both (Means s) (head_asks s) (group_walk s) (λ r f. at_head f) (λ h.
+    (group_walk_lem s h).both (Means s) (λ b k w z r f. at_group (groups_so_far b) k h w z f) (λ gs v.
+    (store_walk_lem s h (groups_so_far gs) v).both (Means s) (λ b k w z r f. at_store (stores_so_far (groups_so_far gs) b) k h v w z f) (λ ss w.
+    (locomotive_walk_lem s h (stores_so_far (groups_so_far gs) ss) v w).both (Means s) (λ b k u z r f. at_locomotive (locomotives_so_far (stores_so_far (groups_so_far gs) ss) b) k h v w u z f) (λ ls u.
     let c = locomotives_so_far (stores_so_far (groups_so_far gs) ss) ls in
-    first_both (Means s) (last_asks s c) (accepted c) (λ n k f. at_last c h v w u f) (λ a.
+    first_both (Means s) (last_asks s c) (accepted c) (λ r f. at_last c h v w u f) (λ a.
     record { head = h; groups = v; stores = w; locomotives = u; last = a })))))
 
 -- and only this outcome does
 pub only : (s : List ℕ) (v : Outcome) → Means s v → outcome s ≡ v
 unfolding outcome store_walk locomotive_walk
-only s (refused n k) (at_head f) = first_no (head_asks s) _ n k f
-only s (refused n k) (at_group c j h v z f) = headed s h ∙ (group_walk_lem s h).at_no c.groups j v z n k f
-only s (refused n k) (at_store c j h v w z f) = headed s h ∙ (group_walk_lem s h).at_end c.groups v ∙ (store_walk_lem s h c v).at_no c.stores j w z n k f
-only s (refused n k) (at_locomotive c j h v w u z f) = passed s h c v w ∙ (locomotive_walk_lem s h c v w).at_no c.locomotives j u z n k f
-only s (refused n k) (at_last c h v w u f) = passed s h c v w ∙ (locomotive_walk_lem s h c v w).at_end c.locomotives u ∙ first_no (last_asks s c) (accepted c) n k f
+only s (refused r) (at_head f) = first_no (head_asks s) _ r f
+only s (refused r) (at_group c j h v z f) = headed s h ∙ (group_walk_lem s h).at_no c.groups j v z r f
+only s (refused r) (at_store c j h v w z f) = headed s h ∙ (group_walk_lem s h).at_end c.groups v ∙ (store_walk_lem s h c v).at_no c.stores j w z r f
+only s (refused r) (at_locomotive c j h v w u z f) = passed s h c v w ∙ (locomotive_walk_lem s h c v w).at_no c.locomotives j u z r f
+only s (refused r) (at_last c h v w u f) = passed s h c v w ∙ (locomotive_walk_lem s h c v w).at_end c.locomotives u ∙ first_no (last_asks s c) (accepted c) r f
 only s (accepted c) a =
     passed s a.head c a.groups a.stores ∙ (locomotive_walk_lem s a.head c a.groups a.stores).at_end c.locomotives a.locomotives
     ∙ first_yes (last_asks s c) (accepted c) a.last

@@ -1,6 +1,6 @@
 -- A source that nothing is refused of is in range, and has zero soot or lead where it must: so its rule answers what it gives, and never a refusal. Assumes
 -- nothing.
-use Rattle.std.proofs.Common.{ℕ, ◌<◌, ◌≡◌, ap, ◌∙◌, Bool, true, false, List, [], ◌∷◌, ◌++◌, eqb, get_or}
+use Rattle.std.proofs.Common.{ℕ, ◌<◌, ◌≡◌, ◌∙◌, Bool, true, false, List, [], ◌∷◌, ◌++◌, eqb, get_or, Ok}
 use Rattle.sums.specs.Choice.{if_then_else}
 use Rattle.sums.proofs.Choices.{nth, all_to_of, list_to_at}
 use Rattle.store_records.specs.Fields.{handling_in_range, standing_in_range, aspiration_in_range}
@@ -9,15 +9,13 @@ use Rattle.vehicle_fields.specs.SootAndLead.{zero_where_due}
 use Rattle.warmups.specs.Parts.{climate_of}
 use Rattle.vehicles.specs.Rules.{emissions_of, group_answer}
 use Rattle.vehicles.specs.Parts.{answer_in}
-use Rattle.vehicles.specs.declared.rule.GroupAnswer.{GroupAnswer}
 use Rattle.vehicles.proofs.Paper.{answered}
 use Rattle.locomotive_fields.specs.Fields.{locomotive_in_range, shares_add_up}
 use Rattle.locomotives.specs.Rules.{locomotive_emissions, locomotive_answer}
 use Rattle.slots.specs.Bytes.{byte_at, zero_from, slot_of}
-use Rattle.slots.specs.Layout.{group_of, group_good_tests, group_good, group_read, coefficients_of, coefficients_good, coefficients_read, handling_of, handling_good, standing_of, standing_good, aspiration_of, aspiration_good, by_kind, store_of, store_good, read_by, read_store, locomotive_of, locomotive_good_tests, locomotive_good, locomotive_read}
+use Rattle.slots.specs.Layout.{group_of, group_good_tests, group_good, coefficients_of, coefficients_good, handling_of, handling_good, standing_of, standing_good, aspiration_of, aspiration_good, by_kind, store_of, store_good, slot_read, store_read, locomotive_of, locomotive_good_tests, locomotive_good}
 use Rattle.slots.specs.declared.store.StoreRecord.{StoreRecord}
 use Rattle.slots.specs.declared.store.StoreRecord.TheVariants.{Handling, Standing, Aspiration}
-use Rattle.slots.specs.declared.store.StoreRead.TheVariants.{Record}
 use Rattle.slot_file.specs.Sources.{coefficient_slot, group_at, store_at, locomotive_at, temperatures_at, Chains}
 use Rattle.slot_file.specs.Questions.{Question, head_asks, link_asks, coefficient_asks, rows_asks, closing_asks, group_link_asks, group_asks, store_asks, locomotive_asks}
 use Rattle.slot_file.specs.Meaning.{AllYes}
@@ -38,13 +36,13 @@ module _ (s : List ℕ) (c : Chains) (g : ℕ) (a : AllYes (group_asks s c g)) w
   closing_asked = all_right (group_link_asks s c g ++ rows) (closing_asks s g) a
 
   pub group_in_range_lem : group_in_range (group_at s g).group ≡ true
-  unfolding group_asks link_asks group_at group_read group_good
+  unfolding group_asks link_asks group_at group_good
   group_in_range_lem =
       let t = slot_of s g in
       nth (group_good_tests t (group_of t)) (yes_at (group_asks s c g) a 3) 0
 
   pub row_in_range : (p : ℕ) → p < pollutant_count → coefficients_in_range (get_or (group_at s g).coefficients p no_coefficients) ≡ true
-  unfolding coefficient_asks group_at coefficients_read coefficients_good
+  unfolding coefficient_asks group_at coefficients_good
   row_in_range p h =
       let t = slot_of s (coefficient_slot s g p) in
       rw (list_to_at no_coefficients pollutant_count (λ (n : ℕ). coefficients_of (slot_of s (coefficient_slot s g n))) p h)
@@ -64,18 +62,18 @@ module _ (s : List ℕ) (c : Chains) (g : ℕ) (a : AllYes (group_asks s c g)) w
 
   -- the group's rule answers what it gives
   pub group_answered : AllYes (head_asks s)
-      → (group_answer (group_at s g).group (temperatures_at s) (group_at s g).coefficients).emissions
-      ≡ emissions_of (group_at s g).group (temperatures_at s) (group_at s g).coefficients
+      → group_answer (group_at s g).group (temperatures_at s) (group_at s g).coefficients
+      ≡ Ok (emissions_of (group_at s g).group (temperatures_at s) (group_at s g).coefficients)
   unfolding group_answer if_then_else
   group_answered h = simp (all_in_range_lem h, zero_where_due_lem)
 
   -- and so it does in the file's climate
   pub climate_answered : AllYes (head_asks s)
-      → (answer_in (group_at s g).group (climate_of (temperatures_at s)) (group_at s g).coefficients).emissions
-      ≡ emissions_of (group_at s g).group (temperatures_at s) (group_at s g).coefficients
+      → answer_in (group_at s g).group (climate_of (temperatures_at s)) (group_at s g).coefficients
+      ≡ Ok (emissions_of (group_at s g).group (temperatures_at s) (group_at s g).coefficients)
   unfolding head_asks temperatures_at
   climate_answered h =
-      ap (λ (a : GroupAnswer). a.emissions) (answered (group_at s g).group (temperatures_at s) (group_at s g).coefficients (yes_at (head_asks s) h 4)) ∙ group_answered h
+      answered (group_at s g).group (temperatures_at s) (group_at s g).coefficients (yes_at (head_asks s) h 4) ∙ group_answered h
 
 -- a store record in range
 abbrev pub store_in_range : StoreRecord → Bool
@@ -95,8 +93,8 @@ good_store t = go (eqb (byte_at t 2) 3) (eqb (byte_at t 2) 4)
     go false false e = nth (aspiration_in_range (aspiration_of t) ∷ zero_from t 6 2 ∷ zero_from t 20 44 ∷ []) e 0
 
 -- the read of a slot of a right kind with its tests passed is the record
-pub store_answered : (s : List ℕ) (c : Chains) (k : ℕ) → AllYes (store_asks s c k) → (read_store (slot_of s k) ≡ Record (store_at s k)) × (store_in_range (store_at s k) ≡ true)
-unfolding store_asks link_asks store_at read_store read_by if_then_else
+pub store_answered : (s : List ℕ) (c : Chains) (k : ℕ) → AllYes (store_asks s c k) → (store_read (slot_of s k) ≡ Ok (store_at s k)) × (store_in_range (store_at s k) ≡ true)
+unfolding store_asks link_asks store_at store_read slot_read if_then_else
 store_answered s c k a =
     let good = yes_at (store_asks s c k) a 3 in
     (simp (yes_at (store_asks s c k) a 2, good), good_store (slot_of s k) good)
@@ -104,7 +102,7 @@ store_answered s c k a =
 -- a locomotive that nothing is refused of
 module _ (s : List ℕ) (c : Chains) (k : ℕ) (a : AllYes (locomotive_asks s c k)) where
   pub locomotive_in_range_lem : locomotive_in_range (locomotive_at s k) ≡ true
-  unfolding locomotive_asks link_asks locomotive_at locomotive_read locomotive_good
+  unfolding locomotive_asks link_asks locomotive_at locomotive_good
   locomotive_in_range_lem = nth (locomotive_good_tests (slot_of s k) (locomotive_of (slot_of s k))) (yes_at (locomotive_asks s c k) a 3) 0
 
   pub shares_add_up_lem : shares_add_up (locomotive_at s k) ≡ true
@@ -112,6 +110,6 @@ module _ (s : List ℕ) (c : Chains) (k : ℕ) (a : AllYes (locomotive_asks s c 
   shares_add_up_lem = yes_at (locomotive_asks s c k) a 4
 
   -- its rule answers what it gives
-  pub locomotive_answered : (locomotive_answer (locomotive_at s k)).emissions ≡ locomotive_emissions (locomotive_at s k)
+  pub locomotive_answered : locomotive_answer (locomotive_at s k) ≡ Ok (locomotive_emissions (locomotive_at s k))
   unfolding locomotive_answer if_then_else
   locomotive_answered = simp (locomotive_in_range_lem, shares_add_up_lem)

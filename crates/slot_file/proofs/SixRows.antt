@@ -1,6 +1,7 @@
 -- The questions of a group's coefficient links, one link after another. Assumes nothing.
 use Rattle.std.proofs.Common.{ℕ, zero, suc, ◌+◌, ◌<◌, arith, add-one, ◌≡◌, List}
 use native.Mathlib.Decide.{dec_lt}
+use Rattle.sums.specs.declared.answer.Refusal.{Refusal}
 use Rattle.slot_file.specs.Questions.{coefficient_asks, rows_asks}
 use Rattle.slot_file.specs.Meaning.{AllYes, FirstNo}
 use Rattle.slot_file.proofs.Asking.{all_append, all_left, all_right, no_before, no_after}
@@ -10,7 +11,7 @@ module _ (s : List ℕ) (g : ℕ) where
   unfolding rows_asks
   rows_yes n a b = rw add-one (all_append (rows_asks s g n) (coefficient_asks s g n) a b)
 
-  pub rows_no : {i k : ℕ} (m n : ℕ) → n < m → AllYes (rows_asks s g n) → FirstNo (coefficient_asks s g n) i k → FirstNo (rows_asks s g m) i k
+  pub rows_no : {r : Refusal} (m n : ℕ) → n < m → AllYes (rows_asks s g n) → FirstNo (coefficient_asks s g n) r → FirstNo (rows_asks s g m) r
   unfolding rows_asks
   rows_no zero n h a f = absurd (omega arith)
   rows_no (suc m) n h a f =

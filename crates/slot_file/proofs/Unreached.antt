@@ -1,11 +1,14 @@
 -- Question 12 in other words: of an accepted file every slot from 1 up is among the sources and their coefficients, and a refusal 12 names the lowest that is not.
 -- By counting up the questions. Assumes nothing.
-use Rattle.std.proofs.Common.{ℕ, zero, suc, ◌+◌, ◌-◌, ◌≤◌, ◌<◌, ◌≡◌, refl, List, [], ◌∷◌, true, false, arith}
+use Rattle.std.proofs.Common.{ℕ, zero, suc, ◌+◌, ◌-◌, ◌≤◌, ◌<◌, ◌≡◌, ap, List, true, false, arith}
 use native.Mathlib.Decide.{dec_lt}
+use Rattle.sums.specs.declared.answer.Reason.TheVariants.{Unreached}
+use Rattle.sums.specs.declared.answer.Refusal.{Refusal}
 use Rattle.slot_file.specs.Sources.{Chains}
-use Rattle.slot_file.specs.Questions.{Question, question, slot_count, member, reached_of, reach_asks, last_asks}
-use Rattle.slot_file.specs.Meaning.{AllYes, FirstNo, here, later, Accepts}
+use Rattle.slot_file.specs.Questions.{question, slot_count, member, reached_of, reach_asks, last_asks}
+use Rattle.slot_file.specs.Meaning.{AllYes, FirstNo, Accepts}
 use Rattle.slot_file.specs.Demands.{LowestUnreached}
+use Rattle.slot_file.proofs.Asking.{split, none}
 
 all_in : (n i : ℕ) (l : List ℕ) → AllYes (reach_asks n i l) → (j : ℕ) → i ≤ j → j < i + n → member j l ≡ true
 unfolding reach_asks
@@ -24,22 +27,16 @@ record Lowest (n i : ℕ) (l : List ℕ) (k : ℕ) : Type 0 where
   out : member k l ≡ false
   lower : (j : ℕ) → i ≤ j → j < k → member j l ≡ true
 
--- a first no is the head, or in the tail
-split : {P : Type 0} (q : Question) (qs : List Question) (n k : ℕ) → FirstNo (q ∷ qs) n k → (q.yes ≡ false → n ≡ q.number → k ≡ q.slot → P) → (q.yes ≡ true → FirstNo qs n k → P) → P
-split q qs n k (here _ _ e) f g = f e refl refl
-split q qs n k (later _ _ e h) f g = g e h
-
-none : {P : Type 0} (n k : ℕ) → FirstNo [] n k → P
-none n k = elim [ ]
-
-lowest_no : (n i : ℕ) (l : List ℕ) (m k : ℕ) → FirstNo (reach_asks n i l) m k → Lowest n i l k
+lowest_no : (n i : ℕ) (l : List ℕ) (r : Refusal) → FirstNo (reach_asks n i l) r → Lowest n i l r.slot
 unfolding reach_asks
-lowest_no zero i l m k f = none m k f
-lowest_no (suc n) i l m k f =
-    split (question (member i l) 12 i) (reach_asks n (i + 1) l) m k f
-    (λ e p q. record { from = omega arith; below = omega arith; out = rw q e; lower = λ j a b. absurd (omega arith) })
+lowest_no zero i l r f = none r f
+lowest_no (suc n) i l r f =
+    split (question (member i l) Unreached i) (reach_asks n (i + 1) l) r f
+    (λ e p.
+    let q : r.slot ≡ i = ap (λ (x : Refusal). x.slot) p in
+    record { from = omega arith; below = omega arith; out = rw q e; lower = λ j a b. absurd (omega arith) })
     (λ e g.
-    let h = lowest_no n (i + 1) l m k g in
+    let h = lowest_no n (i + 1) l r g in
     record {
       from = omega arith;
       below = omega arith;
@@ -48,8 +45,8 @@ lowest_no (suc n) i l m k f =
     })
 
 -- the slot of a refusal by the last questions is the lowest that is not reached
-pub lowest_unreached : (s : List ℕ) (c : Chains) (n k : ℕ) → FirstNo (last_asks s c) n k → LowestUnreached s c k
+pub lowest_unreached : (s : List ℕ) (c : Chains) (r : Refusal) → FirstNo (last_asks s c) r → LowestUnreached s c r.slot
 unfolding last_asks
-lowest_unreached s c n k f =
-    let h = lowest_no (slot_count s - 1) 1 (reached_of s c) n k f in
+lowest_unreached s c r f =
+    let h = lowest_no (slot_count s - 1) 1 (reached_of s c) r f in
     record { from = h.from; below = omega arith; out = h.out; lower = h.lower }

@@ -1,7 +1,7 @@
 -- A file with byte 36 zero in every group is answered as before warm-ups were timed, and so is every file that was accepted then. Question 9 of a group with zero
 -- there asks what 01 asks, and a slot of another kind is refused before it; so the walk is the same. And the minutes of such a group are the table's or the heated
 -- stand's. Assumes nothing.
-use Rattle.std.proofs.Common.{ℕ, zero, suc, ◌+◌, ◌≡◌, refl, sym, ap, subst, ◌∙◌, Bool, true, false, ◌&&◌, List, [], ◌∷◌, ◌++◌, leb, eqb, ℤ, get_or, eqb-true}
+use Rattle.std.proofs.Common.{ℕ, zero, suc, ◌+◌, ◌≡◌, refl, sym, ap, subst, ◌∙◌, Bool, true, false, ◌&&◌, List, [], ◌∷◌, ◌++◌, leb, eqb, ℤ, get_or, eqb-true, Ok}
 use borrow.Author.Tests.{eqb-false}
 use Rattle.sums.specs.Choice.{if_then_else, all_of, list_to}
 use Rattle.sums.proofs.Choices.{left, right, nth}
@@ -115,13 +115,13 @@ module _ (s : List ℕ) (h : NoneTimed s) where
   as_untimed = go (outcome s) refl ∙ ap (untimed_answered s) walk_same
     where
       go : (v : Outcome) → outcome s ≡ v → answered s v ≡ untimed_answered s v
-      go (accepted c) w = let r = ((exactly_when s (accepted c)).0 w).groups in summed_same s c (all_zero_lem _ c.groups 0 r.chain r.good)
-      go (refused n k) w = refl
+      go (accepted c) w = let r = ((exactly_when s (accepted c)).0 w).groups in ap Ok (summed_same s c (all_zero_lem _ c.groups 0 r.chain r.good))
+      go (refused r) w = refl
 
 -- ---- a file that was accepted then
 abbrev Accepting : Outcome → Type 0
 Accepting (accepted c) = Unit {0}
-Accepting (refused n k) = ⊥
+Accepting (refused r) = ⊥
 
 module _ (s : List ℕ) where
   was_zero : (c : Chains) (g : ℕ) → AllYes (untimed_asks s c g) → Zero s g
@@ -154,8 +154,8 @@ module _ (s : List ℕ) where
   was_accepted : (c : Chains) → Kept c (untimed_outcome s)
   unfolding untimed_outcome
   was_accepted c =
-      first_both (Kept c) (head_asks s) _ (λ n k f e. absurd (subst Accepting (sym e) tt)) (λ h.
-      (untimed_walk h).both (Kept c) (λ b k w z n j f e. absurd (subst Accepting (sym e) tt)) (λ b w e.
+      first_both (Kept c) (head_asks s) _ (λ r f e. absurd (subst Accepting (sym e) tt)) (λ h.
+      (untimed_walk h).both (Kept c) (λ b k w z r f e. absurd (subst Accepting (sym e) tt)) (λ b w e.
       let o : outcome s ≡ accepted c = headed s h ∙ (group_walk_lem s h).at_end b (record { chain = w.chain; good = still_good b w.good }) ∙ e in
       let a = (exactly_when s (accepted c)).0 o in
       (o, subst (Each (Zero s)) (one_chain s (header_at s).heads.groups b c.groups w.chain a.groups.chain) (were_zero b w.good))))
@@ -163,4 +163,4 @@ module _ (s : List ℕ) where
   -- THE CLAIM, of every file that was accepted
   pub accepted_as_untimed : (c : Chains) → untimed_outcome s ≡ accepted c → answer s ≡ untimed_answered s (accepted c)
   unfolding answer answered
-  accepted_as_untimed c e = let k = was_accepted c e in ap (answered s) k.0 ∙ summed_same s c k.1
+  accepted_as_untimed c e = let k = was_accepted c e in ap (answered s) k.0 ∙ ap Ok (summed_same s c k.1)

@@ -1,8 +1,9 @@
 -- What was said of a file before there were locomotives: two chains, question 4 over 32..63, and the sums over groups and store records. A file with zeros in 32..33 is answered so, and its
 -- third count is 0 (`proofs/Before.as_before`). What is asked of a group or a store record, and what it gives, is today's; of a group
 -- that is not timed it is 01's (`Untimed`).
-use Rattle.std.specs.Prelude.{ℕ, List, [], ◌++◌, map, length}
+use Rattle.std.specs.Prelude.{ℕ, List, [], ◌++◌, map, length, Result, Ok, Err}
 use Rattle.sums.specs.Answer.{Contribution}
+use Rattle.sums.specs.declared.answer.Refusal.{Refusal}
 use Rattle.slots.specs.Bytes.{zero_from, slot_of}
 use Rattle.slots.specs.declared.header.Header.{Header}
 use Rattle.slot_file.specs.declared.Answer.{Answer}
@@ -10,7 +11,7 @@ use Rattle.slot_file.specs.Sources.{header_at, Chains, Inventory, inventory_at}
 use Rattle.slot_file.specs.Questions.{most_slots, head_asks_of, groups_so_far, stores_so_far, group_asks, store_asks, Outcome, accepted, refused}
 use Rattle.slot_file.specs.Walk.{first, chain, after_all}
 use Rattle.slot_file.specs.Codes.{codes}
-use Rattle.slot_file.specs.Figures.{group_contributions, store_contributions, gathered, annual_figure, peak_figure, refusal}
+use Rattle.slot_file.specs.Figures.{group_contributions, store_contributions, gathered, annual_figure, peak_figure}
 
 -- "Are bytes 32..63 of slot 0 zero?"
 abbrev pub header_before : List ℕ → Header
@@ -32,14 +33,12 @@ abbrev pub contributions_before : Inventory → List Contribution
 contributions_before v = gathered (group_contributions v.temperatures) v.groups ++ gathered store_contributions v.stores
 
 -- an accepted file's answer, with a third count of 0, and a refusal
-abbrev pub answered_before : List ℕ → Outcome → Answer
+abbrev pub answered_before : List ℕ → Outcome → Result Answer Refusal
 answered_before s (accepted c) =
     let v = inventory_at s c in
-    record {
-      number = 0;
-      slot = 0;
+    Ok (record {
       annual = map (annual_figure (contributions_before v)) codes;
       peak = map (peak_figure (contributions_before v)) codes;
       counts = record { groups = length v.groups; stores = length v.stores; locomotives = 0 };
-    }
-answered_before s (refused n k) = refusal n k
+    })
+answered_before s (refused r) = Err r

@@ -1,10 +1,11 @@
 -- 01, "Figures": "The exact sum of a code, annual or peak, adds as fractions what the rules above give that code from each source, equal sources each with a term
 -- of their own"; "The figure is the largest whole number of its units that isn't above the exact sum plus half a unit".
-use Rattle.std.specs.Prelude.{ℕ, List, [], ◌∷◌, ◌++◌, map, eqb, ℤ, get_or, length}
+use Rattle.std.specs.Prelude.{ℕ, List, [], ◌∷◌, ◌++◌, map, eqb, ℤ, get_or, length, Result, Ok, Err}
 use Rattle.sums.specs.Choice.{if_then_else, list_to}
 use Rattle.sums.specs.Fraction.{Frac, whole, ◌⊙◌, ◌⊞◌}
 use Rattle.sums.specs.Figures.{nearest}
 use Rattle.sums.specs.Answer.{Contribution}
+use Rattle.sums.specs.declared.answer.Refusal.{Refusal}
 use Rattle.vehicle_fields.specs.Fields.{no_coefficients}
 use Rattle.vehicles.specs.Rules.{emission_count, contribution_of}
 use Rattle.stores.specs.Rules.{handling_contribution, standing_contribution, aspiration_contribution}
@@ -59,12 +60,10 @@ peak_figure xs c = nearest (exact_sum (λ (x : Contribution). x.rate) c xs ⊙ w
 abbrev pub counts_of : Chains → Counts
 counts_of c = record { groups = length c.groups; stores = length c.stores; locomotives = length c.locomotives }
 
--- the answer: a number and a slot, 0 and 0 of an accepted file; the figures by code; and, by the letter, "how many vehicle groups and store records were summed",
--- with "a third count, the length of the locomotive chain"
+-- the answer to an accepted file: the figures by code; and, by the letter, "how many vehicle groups and store records were summed", with "a third count, the length
+-- of the locomotive chain"
 abbrev pub summed_from : Inventory → List Contribution → Answer
 summed_from v xs = record {
-  number = 0;
-  slot = 0;
   annual = map (annual_figure xs) codes;
   peak = map (peak_figure xs) codes;
   counts = record { groups = length v.groups; stores = length v.stores; locomotives = length v.locomotives };
@@ -73,13 +72,10 @@ summed_from v xs = record {
 unfoldable pub summed : Inventory → Answer
 summed v = summed_from v (contributions v)
 
--- "A refusal gives its number and a slot, with every figure and count zero"
-abbrev pub refusal : ℕ → ℕ → Answer
-refusal n k = record { number = n; slot = k; annual = map (λ (c : ℕ). 0) codes; peak = map (λ (c : ℕ). 0) codes; counts = record { groups = 0; stores = 0; locomotives = 0 } }
+-- "A refusal gives its number and a slot", and no figures. That they are handed over as zeros, "every figure and count zero", is said where an answer is numbers
+unfoldable pub answered : List ℕ → Outcome → Result Answer Refusal
+answered s (accepted c) = Ok (summed (inventory_at s c))
+answered s (refused r) = Err r
 
-unfoldable pub answered : List ℕ → Outcome → Answer
-answered s (accepted c) = summed (inventory_at s c)
-answered s (refused n k) = refusal n k
-
-unfoldable pub answer : List ℕ → Answer
+unfoldable pub answer : List ℕ → Result Answer Refusal
 answer s = answered s (outcome s)

@@ -1,13 +1,15 @@
 -- 01, "Figures": the listing, the refusal line, and question 13 with the buffer after it.
-use Rattle.std.specs.Prelude.{ℕ, zero, suc, ◌+◌, ◌/◌, ◌%◌, ◌^◌, List, [], ◌∷◌, ◌++◌, leb, ltb, eqb, get_or, length, drop}
+use Rattle.std.specs.Prelude.{ℕ, zero, suc, ◌+◌, ◌/◌, ◌%◌, ◌^◌, List, [], ◌∷◌, ◌++◌, leb, ltb, get_or, length, drop, Result, Ok, Err}
 use Prim.Native.Char.{code}
 use Prim.Native.String as string
 use Prim.Native.String.{String}
 use Rattle.sums.specs.Choice.{if_then_else}
+use Rattle.sums.specs.Answer.{number_of}
+use Rattle.sums.specs.declared.answer.Reason.TheVariants.{ShortBuffer}
+use Rattle.sums.specs.declared.answer.Refusal.{Refusal}
 use Rattle.slot_file.specs.declared.Answer.{Answer}
-use Rattle.slot_file.specs.Questions.{listing_number}
+use Rattle.slot_file.specs.declared.Listing.{Listing}
 use Rattle.slot_file.specs.Codes.{codes}
-use Rattle.slot_file.specs.Figures.{refusal}
 
 -- the bytes of a text, whose characters are all of ASCII
 unfoldable pub text : String → List ℕ
@@ -46,25 +48,25 @@ listing a =
     ++ text "sources " ++ decimal a.counts.groups ++ text " " ++ decimal a.counts.stores ++ text " " ++ decimal a.counts.locomotives ++ text "\n"
 
 -- "`refused`, number and slot, parted by spaces"
-unfoldable pub refusal_line : ℕ → ℕ → List ℕ
-refusal_line n k = text "refused " ++ decimal n ++ text " " ++ decimal k ++ text "\n"
+unfoldable pub refusal_line : Refusal → List ℕ
+refusal_line r = text "refused " ++ decimal (number_of r.reason) ++ text " " ++ decimal r.slot ++ text "\n"
 
 -- what the program prints
-unfoldable pub printed : Answer → List ℕ
-printed a = if_then_else (eqb a.number 0) (listing a) (refusal_line a.number a.slot)
+unfoldable pub printed : Result Answer Refusal → List ℕ
+printed (Ok a) = listing a
+printed (Err r) = refusal_line r
 
--- a listing into a lent buffer: its answer, its length, and the buffer's bytes after it
+-- a listing into a lent buffer: its answer and its length, or its refusal, and the buffer's bytes after it. That the length of a refused one is handed over as 0 is said where
+-- it is a number (`written_of` in tezhebul's `Memory`)
 pub record Listed : Type 0 where
-  pub answer : Answer
-  pub written : ℕ
+  pub listing : Result Listing Refusal
   pub buffer : List ℕ
 
--- "Is the lent buffer as long as the listing?", asked last; "A refused listing has length 0 and changes no byte of the buffer. An accepted one writes from byte 0,
+-- "Is the lent buffer as long as the listing?", asked last, of slot 0; "A refused listing has length 0 and changes no byte of the buffer. An accepted one writes from byte 0,
 -- returns its length, and changes nothing beyond it"
-unfoldable pub listed : Answer → List ℕ → Listed
-listed a buffer =
-    if_then_else (eqb a.number 0)
-    (if_then_else (leb (length (listing a)) (length buffer))
-    (record { answer = a; written = length (listing a); buffer = listing a ++ drop (length (listing a)) buffer })
-    (record { answer = refusal listing_number 0; written = 0; buffer = buffer }))
-    (record { answer = a; written = 0; buffer = buffer })
+unfoldable pub listed : Result Answer Refusal → List ℕ → Listed
+listed (Ok a) buffer =
+    if_then_else (leb (length (listing a)) (length buffer))
+    (record { listing = Ok (record { answer = a; written = length (listing a) }); buffer = listing a ++ drop (length (listing a)) buffer })
+    (record { listing = Err (record { reason = ShortBuffer; slot = 0 }); buffer = buffer })
+listed (Err r) buffer = record { listing = Err r; buffer = buffer }

@@ -1,5 +1,7 @@
 -- What an outcome means, in words that know no walk.
 use Rattle.std.specs.Prelude.{ℕ, zero, suc, ◌≡◌, true, false, List, [], ◌∷◌}
+use Rattle.sums.specs.declared.answer.Reason.TheVariants.{Length}
+use Rattle.sums.specs.declared.answer.Refusal.{Refusal}
 use Rattle.slots.specs.Bytes.{slot_of}
 use Rattle.slots.specs.Layout.{next_of}
 use Rattle.slot_file.specs.Sources.{header_at, Chains}
@@ -7,7 +9,7 @@ use Rattle.slot_file.specs.Questions.{Question, question, head_asks, groups_so_f
 
 -- the question at a place, from 0; behind the last, one that is answered yes
 abbrev pub asked_at : List Question → ℕ → Question
-asked_at [] n = question true 0 0
+asked_at [] n = question true Length 0
 asked_at (q ∷ qs) zero = q
 asked_at (q ∷ qs) (suc n) = asked_at qs n
 
@@ -16,10 +18,10 @@ abbrev pub AllYes : List Question → Type 0
 AllYes [] = Unit {0}
 AllYes (q ∷ qs) = (q.yes ≡ true) × AllYes qs
 
--- n and k are the number and the slot of the first question that is answered no
-pub data FirstNo : List Question → ℕ → ℕ → Type 0 where
-  here : (q : Question) (qs : List Question) → q.yes ≡ false → FirstNo (q ∷ qs) q.number q.slot
-  later : (q : Question) (qs : List Question) {n k : ℕ} → q.yes ≡ true → FirstNo qs n k → FirstNo (q ∷ qs) n k
+-- r is the refusal of the first question that is answered no
+pub data FirstNo : List Question → Refusal → Type 0 where
+  here : (q : Question) (qs : List Question) → q.yes ≡ false → FirstNo (q ∷ qs) q.refusal
+  later : (q : Question) (qs : List Question) {r : Refusal} → q.yes ≡ true → FirstNo qs r → FirstNo (q ∷ qs) r
 
 -- the slots of b, the last one first, are a chain of the file from the link `from` on, and it goes on at `link`
 abbrev pub Chain : List ℕ → ℕ → List ℕ → ℕ → Type 0
@@ -54,14 +56,14 @@ pub record Accepts (s : List ℕ) (c : Chains) : Type 0 where
   pub last : AllYes (last_asks s c)
 
 -- a refused file: what was reached before, and the first question that is answered no
-pub data Refuses (s : List ℕ) (n k : ℕ) : Type 0 where
-  at_head : FirstNo (head_asks s) n k → Refuses s n k
-  at_group : (c : Chains) (j : ℕ) → AllYes (head_asks s) → Groups s c j → (j ≡ 0 → ⊥) → FirstNo (group_asks s (groups_so_far c.groups) j) n k → Refuses s n k
-  at_store : (c : Chains) (j : ℕ) → AllYes (head_asks s) → Groups s c 0 → Stores s c j → (j ≡ 0 → ⊥) → FirstNo (store_asks s (stores_so_far c c.stores) j) n k → Refuses s n k
+pub data Refuses (s : List ℕ) (r : Refusal) : Type 0 where
+  at_head : FirstNo (head_asks s) r → Refuses s r
+  at_group : (c : Chains) (j : ℕ) → AllYes (head_asks s) → Groups s c j → (j ≡ 0 → ⊥) → FirstNo (group_asks s (groups_so_far c.groups) j) r → Refuses s r
+  at_store : (c : Chains) (j : ℕ) → AllYes (head_asks s) → Groups s c 0 → Stores s c j → (j ≡ 0 → ⊥) → FirstNo (store_asks s (stores_so_far c c.stores) j) r → Refuses s r
   at_locomotive : (c : Chains) (j : ℕ) → AllYes (head_asks s) → Groups s c 0 → Stores s c 0 → Locomotives s c j → (j ≡ 0 → ⊥)
-      → FirstNo (locomotive_asks s (locomotives_so_far c c.locomotives) j) n k → Refuses s n k
-  at_last : (c : Chains) → AllYes (head_asks s) → Groups s c 0 → Stores s c 0 → Locomotives s c 0 → FirstNo (last_asks s c) n k → Refuses s n k
+      → FirstNo (locomotive_asks s (locomotives_so_far c c.locomotives) j) r → Refuses s r
+  at_last : (c : Chains) → AllYes (head_asks s) → Groups s c 0 → Stores s c 0 → Locomotives s c 0 → FirstNo (last_asks s c) r → Refuses s r
 
 abbrev pub Means : List ℕ → Outcome → Type 0
 Means s (accepted c) = Accepts s c
-Means s (refused n k) = Refuses s n k
+Means s (refused r) = Refuses s r

@@ -1,32 +1,35 @@
--- 01, "Questions in order", and 02, U1: each question is written once, as a value with its answer, its number and the slot of a refusal; and what a file is told.
+-- 01, "Questions in order", and 02, U1: each question is written once, as a value with its answer and the refusal that it gives, a reason, whose number is that of 01 and 02, and a slot; and what a file is told.
 use Rattle.std.specs.Prelude.{ℕ, zero, suc, ◌+◌, ◌*◌, ◌-◌, ◌/◌, ◌%◌, Bool, true, false, ◌&&◌, not, List, [], ◌∷◌, ◌++◌, leb, ltb, eqb, length}
 use Rattle.sums.specs.Choice.{if_then_else}
+use Rattle.sums.specs.declared.answer.Reason.{Reason}
+use Rattle.sums.specs.declared.answer.Reason.TheVariants.{Length, Format, Count, HeaderBytes, Temperatures, LinkPastEnd, Repeated, WrongKind, OutOfRange, CoefficientChain, SootOrLead, Unreached, Shares}
+use Rattle.sums.specs.declared.answer.Refusal.{Refusal}
 use Rattle.vehicle_fields.specs.Fields.{pollutant_count, temperatures_in_range}
 use Rattle.vehicle_fields.specs.SootAndLead.{zero_where_due}
 use Rattle.locomotive_fields.specs.Fields.{shares_add_up}
 use Rattle.slots.specs.Bytes.{slot_size, slot_of}
-use Rattle.slots.specs.Layout.{group_of, group_good, group_kind, coefficients_of, coefficients_good, coefficients_kind, coefficients_read, store_kind, store_good, locomotive_of, locomotive_kind, locomotive_good}
+use Rattle.slots.specs.Layout.{group_of, group_good, group_kind, coefficients_of, coefficients_good, coefficients_kind, pollutant_of, store_kind, store_good, locomotive_of, locomotive_kind, locomotive_good}
 use Rattle.slots.specs.declared.header.Header.{Header}
 use Rattle.slot_file.specs.Sources.{coefficient_slot, group_at, locomotive_at, header_at, Chains}
 
+-- a question: its answer, and the refusal of what it is answered no of
 pub record Question : Type 0 where
   pub yes : Bool
-  pub number : ℕ
-  pub slot : ℕ
+  pub refusal : Refusal
 
-abbrev pub question : Bool → ℕ → ℕ → Question
-question t n k = record { yes = t; number = n; slot = k }
+abbrev pub question : Bool → Reason → ℕ → Question
+question t n k = record { yes = t; refusal = record { reason = n; slot = k } }
 
--- accepted, with the chains; or refused, with a number and a slot
+-- accepted, with the chains; or refused
 pub data Outcome : Type 0 where
   accepted : Chains → Outcome
-  refused : ℕ → ℕ → Outcome
+  refused : Refusal → Outcome
 
 -- the last number that a refusal of a file can have
 abbrev pub last_number : ℕ
 last_number = 14
 
--- "Only a listing asks 13"
+-- the listing's own number, which no check and no answer of a file has
 abbrev pub listing_number : ℕ
 listing_number = 13
 
@@ -44,11 +47,11 @@ slot_count s = length s / slot_size
 -- questions 1 to 5, of the file s and what its slot 0 holds; "The slot is 0 for 1 to 5"
 abbrev pub head_asks_of : List ℕ → Header → List Question
 head_asks_of s h =
-    question (leb slot_size (length s) && leb (length s) most_bytes && eqb (length s % slot_size) 0) 1 0  -- "Is the length a multiple of 64, from 64 to 65,536?"
-    ∷ question (eqb h.format 1) 2 0  -- "Is the format number 1?"
-    ∷ question (eqb h.count (slot_count s)) 3 0  -- "Does the slot count equal length / 64?"
-    ∷ question h.rest 4 0  -- "Are bytes 32..63 of slot 0 zero?", where "question 4 skips the two bytes" 32..33
-    ∷ question (temperatures_in_range h.temperatures) 5 0  -- "Is each temperature from -600 to 600?"
+    question (leb slot_size (length s) && leb (length s) most_bytes && eqb (length s % slot_size) 0) Length 0  -- 1: "Is the length a multiple of 64, from 64 to 65,536?"
+    ∷ question (eqb h.format 1) Format 0  -- 2: "Is the format number 1?"
+    ∷ question (eqb h.count (slot_count s)) Count 0  -- 3: "Does the slot count equal length / 64?"
+    ∷ question h.rest HeaderBytes 0  -- 4: "Are bytes 32..63 of slot 0 zero?", where "question 4 skips the two bytes" 32..33
+    ∷ question (temperatures_in_range h.temperatures) Temperatures 0  -- 5: "Is each temperature from -600 to 600?"
     ∷ []
 
 unfoldable pub head_asks : List ℕ → List Question
@@ -62,16 +65,16 @@ member k (x ∷ xs) = if_then_else (eqb k x) true (member k xs)
 -- of a slot k, by its kind and by its fields and unnamed bytes
 abbrev pub slot_asks : Bool → Bool → ℕ → List Question
 slot_asks kind good k =
-    question kind 8 k  -- "Has it a kind this chain carries?"
-    ∷ question good 9 k  -- "Is each field in range and every unnamed byte zero?"
+    question kind WrongKind k  -- 8: "Has it a kind this chain carries?"
+    ∷ question good OutOfRange k  -- 9: "Is each field in range and every unnamed byte zero?"
     ∷ []
 
 -- "At each nonzero link 6, 7, 8 and 9 are asked": of a link k, which the slot `holder` holds, where `before` are the slots reached before as groups, store
 -- records and locomotives; the refusal's slot is "the slot holding the link for 6", else "the slot asked about"
 unfoldable pub link_asks : List ℕ → ℕ → List ℕ → ℕ → Bool → Bool → List Question
 link_asks s holder before k kind good =
-    question (ltb k (slot_count s)) 6 holder  -- "Is the link below the slot count?"
-    ∷ question (not (member k before)) 7 k  -- "Is the slot new on this walk as a group or store record?"; "question 7 includes locomotives"
+    question (ltb k (slot_count s)) LinkPastEnd holder  -- 6: "Is the link below the slot count?"
+    ∷ question (not (member k before)) Repeated k  -- 7: "Is the slot new on this walk as a group or store record?"; "question 7 includes locomotives"
     ∷ slot_asks kind good k
 
 -- the slot that holds the link to a group's coefficient slot at place n
@@ -85,10 +88,10 @@ unfoldable pub coefficient_asks : List ℕ → ℕ → ℕ → List Question
 coefficient_asks s g n =
     let k = coefficient_slot s g n in
     let t = slot_of s k in
-    question (not (eqb k 0)) 10 (coefficient_holder s g n)
-    ∷ question (ltb k (slot_count s)) 6 (coefficient_holder s g n)
+    question (not (eqb k 0)) CoefficientChain (coefficient_holder s g n)
+    ∷ question (ltb k (slot_count s)) LinkPastEnd (coefficient_holder s g n)
     ∷ slot_asks (coefficients_kind t) (coefficients_good t (coefficients_of t)) k
-    ++ question (eqb (coefficients_read t).pollutant (n + 1)) 10 k
+    ++ question (eqb (pollutant_of t) (n + 1)) CoefficientChain k
     ∷ []
 
 -- of the first n of them
@@ -98,13 +101,13 @@ rows_asks s g (suc n) = rows_asks s g n ++ coefficient_asks s g n
 
 -- "after the sixth, next is zero (10)": at "the sixth coefficient slot where its next isn't zero"
 abbrev pub after_sixth : List ℕ → ℕ → Question
-after_sixth s g = question (eqb (coefficient_slot s g pollutant_count) 0) 10 (coefficient_slot s g (pollutant_count - 1))
+after_sixth s g = question (eqb (coefficient_slot s g pollutant_count) 0) CoefficientChain (coefficient_slot s g (pollutant_count - 1))
 
 -- "then 11 for the group": "the group for 11"
 unfoldable pub closing_asks : List ℕ → ℕ → List Question
 closing_asks s g =
-    after_sixth s g  -- "Does the coefficient chain hold pollutants 1 to 6 in order, then end?"
-    ∷ question (zero_where_due (group_at s g).group (group_at s g).coefficients) 11 g  -- "Is soot zero throughout for petrol, lead for diesel?"
+    after_sixth s g  -- 10: "Does the coefficient chain hold pollutants 1 to 6 in order, then end?"
+    ∷ question (zero_where_due (group_at s g).group (group_at s g).coefficients) SootOrLead g  -- 11: "Is soot zero throughout for petrol, lead for diesel?"
     ∷ []
 
 -- the last slot of a chain so far, which holds the next link; slot 0 holds the first
@@ -159,13 +162,13 @@ unfoldable pub locomotive_asks : List ℕ → Chains → ℕ → List Question
 locomotive_asks s c k =
     let t = slot_of s k in
     link_asks s (last_of c.locomotives) (sources_of c) k (locomotive_kind t) (locomotive_good t (locomotive_of t))
-    ++ question (shares_add_up (locomotive_at s k)) 14 k
+    ++ question (shares_add_up (locomotive_at s k)) Shares k
     ∷ []
 
 -- "Is each slot from 1 up reached?": n slots from i up, so that the first that is not is "the lowest unreached"
 unfoldable pub reach_asks : ℕ → ℕ → List ℕ → List Question
 reach_asks zero i reached = []
-reach_asks (suc n) i reached = question (member i reached) 12 i ∷ reach_asks n (i + 1) reached
+reach_asks (suc n) i reached = question (member i reached) Unreached i ∷ reach_asks n (i + 1) reached
 
 unfoldable pub last_asks : List ℕ → Chains → List Question
 last_asks s c = reach_asks (slot_count s - 1) 1 (reached_of s c)

@@ -7,14 +7,14 @@ use Rattle.vehicle_fields.specs.declared.group.Group.{Group}
 use Rattle.vehicle_fields.specs.declared.group.Coefficients.{Coefficients}
 use Rattle.locomotive_fields.specs.declared.fields.Locomotive.{Locomotive}
 use Rattle.slots.specs.Bytes.{slot_of}
-use Rattle.slots.specs.Layout.{header_of, group_read, coefficients_read, store_of, locomotive_read}
+use Rattle.slots.specs.Layout.{next_of, header_of, group_of, first_of, coefficients_of, store_of, locomotive_of}
 use Rattle.slots.specs.declared.header.Header.{Header}
 use Rattle.slots.specs.declared.store.StoreRecord.{StoreRecord}
 
 -- "34..35 first coefficient slot", and the chain from there: the coefficient slot of a group for the pollutant at place n from 0
 unfoldable pub coefficient_slot : List ℕ → ℕ → ℕ → ℕ
-coefficient_slot s g zero = (group_read (slot_of s g)).first
-coefficient_slot s g (suc n) = (coefficients_read (slot_of s (coefficient_slot s g n))).next
+coefficient_slot s g zero = first_of (slot_of s g)
+coefficient_slot s g (suc n) = next_of (slot_of s (coefficient_slot s g n))
 
 -- a group with its own coefficients
 pub record VehicleGroup : Type 0 where
@@ -23,8 +23,8 @@ pub record VehicleGroup : Type 0 where
 
 unfoldable pub group_at : List ℕ → ℕ → VehicleGroup
 group_at s g = record {
-  group = (group_read (slot_of s g)).group;
-  coefficients = list_to pollutant_count (λ (n : ℕ). (coefficients_read (slot_of s (coefficient_slot s g n))).coefficients);
+  group = group_of (slot_of s g);
+  coefficients = list_to pollutant_count (λ (n : ℕ). coefficients_of (slot_of s (coefficient_slot s g n)));
 }
 
 -- the record of a slot that reads as one
@@ -32,7 +32,7 @@ unfoldable pub store_at : List ℕ → ℕ → StoreRecord
 store_at s k = store_of (slot_of s k)
 
 unfoldable pub locomotive_at : List ℕ → ℕ → Locomotive
-locomotive_at s k = (locomotive_read (slot_of s k)).locomotive
+locomotive_at s k = locomotive_of (slot_of s k)
 
 -- slot 0
 abbrev pub header_at : List ℕ → Header

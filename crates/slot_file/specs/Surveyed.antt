@@ -1,9 +1,11 @@
 -- 01, "Surveyed examples": the starred rows, as files of bytes with what they print; locomotives by 000 and 02; timed warm-ups; and files for what 01, 02 and the
 -- letter say of refusals, of lent buffers and of two desks.
-use Rattle.std.specs.Prelude.{ℕ, ◌+◌, ◌-◌, ◌/◌, ◌%◌, ◌≡◌, eqb, pos, get_or, length, replicate, List, [], ◌∷◌, ◌++◌, map, flat_map}
+use Rattle.std.specs.Prelude.{ℕ, ◌+◌, ◌-◌, ◌/◌, ◌%◌, ◌≡◌, eqb, pos, get_or, length, replicate, List, [], ◌∷◌, ◌++◌, map, flat_map, Result, Ok, Err}
 use Prim.Native.String.{String}
 use Rattle.sums.specs.Choice.{if_then_else}
 use Rattle.sums.specs.Fraction.{Frac, ◌over◌}
+use Rattle.sums.specs.declared.answer.Reason.TheVariants.{OutOfRange, ShortBuffer}
+use Rattle.sums.specs.declared.answer.Refusal.{Refusal}
 use Rattle.vehicle_factors.specs.Factors.{standard_factors}
 use Rattle.warmups.specs.Warmup.{minutes_at}
 use Rattle.slot_file.specs.declared.Answer.{Answer}
@@ -11,7 +13,7 @@ use Rattle.slot_file.specs.Sources.{VehicleGroup, temperatures_at, Chains, inven
 use Rattle.slot_file.specs.Questions.{Outcome, accepted, refused}
 use Rattle.slot_file.specs.Walk.{outcome}
 use Rattle.slot_file.specs.Codes.{codes}
-use Rattle.slot_file.specs.Figures.{refusal, answer}
+use Rattle.slot_file.specs.Figures.{answer}
 use Rattle.slot_file.specs.Alike.{AlikeFiles}
 use Rattle.slot_file.specs.Untimed.{untimed_outcome, untimed_summed}
 use Rattle.slot_file.specs.Listing.{Listed, listed, text, decimal, padded, printed}
@@ -90,7 +92,7 @@ given f m t = record { file = f; minutes = m; prints = t }
 
 abbrev warmups : List ℕ → Outcome → List Frac
 warmups s (accepted c) = map (λ (v : VehicleGroup). minutes_at standard_factors v.group (get_or (temperatures_at s) 0 (pos 0))) (inventory_at s c).groups
-warmups s (refused n k) = []
+warmups s (refused r) = []
 
 -- what the definitions make of a row's file: a table is right where this is the table itself
 abbrev pub worked : Row → Row
@@ -242,24 +244,22 @@ timed_stands =
 
 -- before warm-ups were timed: the file of a timed stand was refused, that of one which is not timed was accepted; and a stand gave what one gives that is not timed
 pub record StandsBefore : Type 0 where
-  pub timed : untimed_outcome (stand 0 (25 ∷ []) (below 200)) ≡ refused 9 1
+  pub timed : untimed_outcome (stand 0 (25 ∷ []) (below 200)) ≡ refused (record { reason = OutOfRange; slot = 1 })
   pub accepted_then : untimed_outcome (stand 0 (0 ∷ []) (below 200)) ≡ accepted (chains (1 ∷ []) [] [])
-  pub gave : printed (untimed_summed (inventory_at (stand 0 (25 ∷ []) (below 200)) (chains (1 ∷ []) [] []))) ≡ sheet (only 337 " 0.117600 0.1044444") 1 0 0
+  pub gave : printed (Ok (untimed_summed (inventory_at (stand 0 (25 ∷ []) (below 200)) (chains (1 ∷ []) [] [])))) ≡ sheet (only 337 " 0.117600 0.1044444") 1 0 0
 
 -- a listing of an answer in a lent buffer of n bytes, and B's: one byte too short, as long, and longer
-abbrev lent_of : Answer → ℕ → Listed
-lent_of a n = listed a (replicate n 7)
+abbrev lent_of : Result Answer Refusal → ℕ → Listed
+lent_of v n = listed v (replicate n 7)
 
-pub record LentOfB (a : Answer) : Type 0 where
-  pub short : lent_of a 269 ≡ record { answer = refusal 13 0; written = 0; buffer = replicate 269 7 }
-  pub just : lent_of a 270 ≡ record { answer = a; written = 270; buffer = text listing_of_b }
-  pub longer : lent_of a 272 ≡ record { answer = a; written = 270; buffer = text listing_of_b ++ (7 ∷ 7 ∷ []) }
+pub record LentOfB (v : Result Answer Refusal) (a : Answer) : Type 0 where
+  pub short : lent_of v 269 ≡ record { listing = Err (record { reason = ShortBuffer; slot = 0 }); buffer = replicate 269 7 }
+  pub just : lent_of v 270 ≡ record { listing = Ok (record { answer = a; written = 270 }); buffer = text listing_of_b }
+  pub longer : lent_of v 272 ≡ record { listing = Ok (record { answer = a; written = 270 }); buffer = text listing_of_b ++ (7 ∷ 7 ∷ []) }
 
 -- B's answer: only the code 0337 has figures
 unfoldable pub answer_of_b : Answer
 answer_of_b = record {
-  number = 0;
-  slot = 0;
   annual = map (λ (c : ℕ). if_then_else (eqb c 337) 24000 0) codes;
   peak = map (λ (c : ℕ). if_then_else (eqb c 337) 177778 0) codes;
   counts = record { groups = 1; stores = 0; locomotives = 0 };

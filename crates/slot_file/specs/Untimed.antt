@@ -1,9 +1,10 @@
 -- What was asked of a group, and what it gave, before warm-ups were timed: question 9 over 36..63, and the minutes of the table or the heated stand's 1.5. A file with
 -- byte 36 zero in every group is answered so (`proofs/Untimed.as_untimed`), and so is every file that was accepted then (`accepted_as_untimed`): 02, U2, "Old files
 -- read as before".
-use Rattle.std.specs.Prelude.{ℕ, ◌≡◌, Bool, true, List, [], ◌∷◌, ◌++◌, leb, ℤ, get_or}
+use Rattle.std.specs.Prelude.{ℕ, ◌≡◌, Bool, true, List, [], ◌∷◌, ◌++◌, leb, ℤ, get_or, Result, Ok, Err}
 use Rattle.sums.specs.Choice.{all_of, list_to}
 use Rattle.sums.specs.Answer.{Contribution}
+use Rattle.sums.specs.declared.answer.Refusal.{Refusal}
 use Rattle.vehicle_fields.specs.Fields.{pollutant_count, no_coefficients, untimed_tests}
 use Rattle.vehicle_fields.specs.declared.group.Group.{Group}
 use Rattle.vehicle_factors.specs.Factors.{standard_factors}
@@ -15,7 +16,7 @@ use Rattle.slot_file.specs.declared.Answer.{Answer}
 use Rattle.slot_file.specs.Sources.{header_at, VehicleGroup, Chains, Inventory, inventory_at}
 use Rattle.slot_file.specs.Questions.{most_slots, Question, Outcome, accepted, refused, head_asks, last_of, sources_of, groups_so_far, link_asks, rows_asks, closing_asks}
 use Rattle.slot_file.specs.Walk.{first, chain, store_walk}
-use Rattle.slot_file.specs.Figures.{store_contributions, locomotive_contributions, gathered, summed_from, refusal}
+use Rattle.slot_file.specs.Figures.{store_contributions, locomotive_contributions, gathered, summed_from}
 
 -- every slot from 1 up that is a group has zero at byte 36, "0 for untimed"
 abbrev pub NoneTimed : List ℕ → Type 0
@@ -44,6 +45,6 @@ abbrev pub untimed_summed : Inventory → Answer
 untimed_summed v =
     summed_from v (gathered (untimed_contributions v.temperatures) v.groups ++ gathered store_contributions v.stores ++ gathered locomotive_contributions v.locomotives)
 
-abbrev pub untimed_answered : List ℕ → Outcome → Answer
-untimed_answered s (accepted c) = untimed_summed (inventory_at s c)
-untimed_answered s (refused n k) = refusal n k
+abbrev pub untimed_answered : List ℕ → Outcome → Result Answer Refusal
+untimed_answered s (accepted c) = Ok (untimed_summed (inventory_at s c))
+untimed_answered s (refused r) = Err r

@@ -1,22 +1,21 @@
 -- The number of a store record's read is that of questions 8 and 9, and its values are the record's where that is 0: by the kind, and whether its tests hold. Assumes
 -- nothing.
-use Rattle.std.proofs.Common.{◌≡◌, refl, sym, ap, ◌∙◌, Bool, true, false, ◌&&◌, ◌||◌, List, [], ℕ, eqb, get_or, eqb-true}
+use Rattle.std.proofs.Common.{◌≡◌, refl, sym, ap, ◌∙◌, Bool, true, false, ◌&&◌, ◌||◌, List, [], ℕ, eqb, get_or, eqb-true, Result, Ok, Err, MatchResult, IsOkAnd}
+use Rattle.sums.specs.declared.answer.Reason.{Reason}
 use Rattle.sums.specs.Choice.{if_then_else}
 use Rattle.slots.specs.Bytes.{byte_at, number_of}
-use Rattle.slots.specs.Layout.{handling_of, standing_of, aspiration_of, store_kind, by_kind, store_of, store_good, read_by, read_store, store_fields, read_number, read_values, StoreReads}
+use Rattle.slots.specs.Layout.{handling_of, standing_of, aspiration_of, store_kind, by_kind, store_of, store_good, slot_read, store_read, store_fields, read_number, read_values, StoreReads}
 use Rattle.slots.specs.declared.store.StoreRecord.{StoreRecord}
 use Rattle.slots.specs.declared.store.StoreRecord.TheVariants.{Handling, Standing, Aspiration}
-use Rattle.slots.specs.declared.store.StoreRead.{StoreRead}
-use Rattle.slots.specs.declared.store.StoreRead.TheVariants.{WrongKind}
 
-numbered : (kind good : Bool) (r : StoreRecord) → read_number (if_then_else kind (read_by good r) WrongKind) ≡ number_of kind good
-unfolding if_then_else read_by number_of
+numbered : (kind good : Bool) (r : StoreRecord) → read_number (slot_read kind good r) ≡ number_of kind good
+unfolding if_then_else slot_read number_of
 numbered true true r = refl
 numbered true false r = refl
 numbered false good r = refl
 
-valued : (kind good : Bool) (r : StoreRecord) → read_values (if_then_else kind (read_by good r) WrongKind) ≡ if_then_else (kind && good) (store_fields r) []
-unfolding if_then_else read_by
+valued : (kind good : Bool) (r : StoreRecord) → read_values (slot_read kind good r) ≡ if_then_else (kind && good) (store_fields r) []
+unfolding if_then_else slot_read
 valued true true r = refl
 valued true false r = refl
 valued false good r = refl
@@ -32,11 +31,20 @@ first_kind t = go (eqb (byte_at t 2) 3) refl (eqb (byte_at t 2) 4) refl (eqb (by
     go false e false f true h k = sym (eqb-true _ 5 h)
     go false e false f false h k = cc
 
-pub right_read : (t : List ℕ) (r : StoreRead) → r ≡ read_store t → StoreReads t r
-unfolding read_store
+pub right_read : (t : List ℕ) (r : Result StoreRecord Reason) → r ≡ store_read t → StoreReads t r
+unfolding store_read
 right_read t r e = record {
   read = e;
-  number = ap (λ (x : StoreRead). read_number x) e ∙ numbered (store_kind t) (store_good t) (store_of t);
-  values = ap (λ (x : StoreRead). read_values x) e ∙ valued (store_kind t) (store_good t) (store_of t);
+  number = ap (λ (x : Result StoreRecord Reason). read_number x) e ∙ numbered (store_kind t) (store_good t) (store_of t);
+  values = ap (λ (x : Result StoreRecord Reason). read_values x) e ∙ valued (store_kind t) (store_good t) (store_of t);
   kind = first_kind t;
 }
+
+-- what is made of what a slot holds, where it is read
+pub mapped : {A B : Type 0} (f : A → B) (P : A → B → Type 0) (kind good : Bool) (x : A) (r : Result A Reason) (m : Result B Reason) → r ≡ slot_read kind good x → MatchResult r (λ a. IsOkAnd m (P a)) (λ e. m ≡ Err e)
+    → ((y : B) → P x y → y ≡ f x) → m ≡ slot_read kind good (f x)
+unfolding slot_read if_then_else
+mapped f P true true x r (Ok y) e c s = ap Ok (s y (rw e at c))
+mapped f P true true x r (Err z) e c s = absurd (rw e at c)
+mapped f P true false x r m e c s = rw e at c
+mapped f P false good x r m e c s = rw e at c

@@ -1,7 +1,10 @@
 -- 01, "The slot file": the fields of slot 0, a group, coefficients and a store record, by their byte positions; and 02, U1, those of a locomotive, and U2, one more
 -- of a group.
-use Rattle.std.specs.Prelude.{ℕ, ◌+◌, ◌*◌, ◌/◌, ◌%◌, ◌≡◌, Bool, true, ◌&&◌, ◌||◌, List, [], ◌∷◌, leb, eqb, ℤ, get_or}
+use Rattle.std.specs.Prelude.{ℕ, ◌+◌, ◌*◌, ◌/◌, ◌%◌, ◌≡◌, Bool, true, ◌&&◌, ◌||◌, List, [], ◌∷◌, leb, eqb, ℤ, get_or, Result, Ok, Err}
 use Rattle.sums.specs.Choice.{if_then_else, all_of, list_to}
+use Rattle.sums.specs.Answer as answers
+use Rattle.sums.specs.declared.answer.Reason.{Reason}
+use Rattle.sums.specs.declared.answer.Reason.TheVariants.{WrongKind, OutOfRange}
 use Rattle.vehicle_fields.specs.Fields.{group_in_range, coefficients_in_range}
 use Rattle.vehicle_fields.specs.declared.group.Distances.{Distances}
 use Rattle.vehicle_fields.specs.declared.group.Group.{Group}
@@ -15,17 +18,20 @@ use Rattle.locomotive_fields.specs.Fields.{mode_count, locomotive_in_range}
 use Rattle.locomotive_fields.specs.declared.fields.Locomotive.{Locomotive}
 use Rattle.slots.specs.Bytes.{byte_at, u16_at, u32_at, i16_at, zero_from, number_of}
 use Rattle.slots.specs.declared.header.Header.{Header}
-use Rattle.slots.specs.declared.group.GroupRead.{GroupRead}
-use Rattle.slots.specs.declared.coefficients.CoefficientsRead.{CoefficientsRead}
-use Rattle.slots.specs.declared.locomotive.LocomotiveRead.{LocomotiveRead}
+use Rattle.slots.specs.declared.group.GroupSlot.{GroupSlot}
+use Rattle.slots.specs.declared.coefficients.CoefficientSlot.{CoefficientSlot}
+use Rattle.slots.specs.declared.locomotive.LocomotiveSlot.{LocomotiveSlot}
 use Rattle.slots.specs.declared.store.StoreRecord.{StoreRecord}
 use Rattle.slots.specs.declared.store.StoreRecord.TheVariants.{Handling, Standing, Aspiration}
-use Rattle.slots.specs.declared.store.StoreRead.{StoreRead}
-use Rattle.slots.specs.declared.store.StoreRead.TheVariants.{Record, WrongKind, OutOfRange}
 
 -- "A chain runs by each slot's next index (0..1)"
 abbrev pub next_of : List ℕ → ℕ
 next_of t = u16_at t 0
+
+-- questions 8 and 9 of a slot, "Has it a kind this chain carries?" and "Is each field in range and every unnamed byte zero?": what it holds, or the first that is
+-- answered no
+unfoldable pub slot_read : {A : Type 0} → Bool → Bool → A → Result A Reason
+slot_read kind good x = if_then_else kind (if_then_else good (Ok x) (Err OutOfRange)) (Err WrongKind)
 
 -- **Slot 0**: "8..31 the twelve monthly mean temperatures as signed 16-bit tenths of a degree Celsius, January first"
 unfoldable pub temperatures_of : List ℕ → List ℤ
@@ -81,8 +87,14 @@ abbrev pub group_kind : List ℕ → Bool
 group_kind t = eqb (byte_at t 2) 1
 
 -- "34..35 first coefficient slot"
-unfoldable pub group_read : List ℕ → GroupRead
-group_read t = record { number = number_of (group_kind t) (group_good t (group_of t)); group = group_of t; next = next_of t; first = u16_at t 34 }
+abbrev pub first_of : List ℕ → ℕ
+first_of t = u16_at t 34
+
+unfoldable pub group_slot_of : List ℕ → GroupSlot
+group_slot_of t = record { group = group_of t; next = next_of t; first = first_of t }
+
+unfoldable pub group_read : List ℕ → Result GroupSlot Reason
+group_read t = slot_read (group_kind t) (group_good t (group_of t)) (group_slot_of t)
 
 -- **Coefficients**: "from 4 seven 4-byte numbers ...: warm-up per minute in warm, transitional, cold period; run per kilometre in the same three; idle per minute"
 unfoldable pub coefficients_of : List ℕ → Coefficients
@@ -100,14 +112,16 @@ coefficients_good t k = all_of (coefficients_in_range k ∷ zero_from t 32 32 �
 abbrev pub coefficients_kind : List ℕ → Bool
 coefficients_kind t = eqb (byte_at t 2) 2
 
--- "3 pollutant", and the next index, by which the coefficient chain goes on
-unfoldable pub coefficients_read : List ℕ → CoefficientsRead
-coefficients_read t = record {
-  number = number_of (coefficients_kind t) (coefficients_good t (coefficients_of t));
-  pollutant = byte_at t 3;
-  coefficients = coefficients_of t;
-  next = next_of t;
-}
+-- "3 pollutant"
+abbrev pub pollutant_of : List ℕ → ℕ
+pollutant_of t = byte_at t 3
+
+-- and the next index, by which the coefficient chain goes on
+unfoldable pub coefficient_slot_of : List ℕ → CoefficientSlot
+coefficient_slot_of t = record { pollutant = pollutant_of t; coefficients = coefficients_of t; next = next_of t }
+
+unfoldable pub coefficients_read : List ℕ → Result CoefficientSlot Reason
+coefficients_read t = slot_read (coefficients_kind t) (coefficients_good t (coefficients_of t)) (coefficient_slot_of t)
 
 -- **Store record**: "3 dust code ... 4..5 store number ... Handling and standing: 6 material ... 8..9 wind ... 10..11 moisture ... 12..13 grain ... 14 openness ... 20..23 amount"
 unfoldable pub bulk_of : List ℕ → Bulk
@@ -167,12 +181,8 @@ store_of t = by_kind t (Handling (handling_of t)) (Standing (standing_of t)) (As
 unfoldable pub store_good : List ℕ → Bool
 store_good t = by_kind t (handling_good t (handling_of t)) (standing_good t (standing_of t)) (aspiration_good t (aspiration_of t))
 
--- a record where its tests hold
-unfoldable pub read_by : Bool → StoreRecord → StoreRead
-read_by good r = if_then_else good (Record r) OutOfRange
-
-unfoldable pub read_store : List ℕ → StoreRead
-read_store t = if_then_else (store_kind t) (read_by (store_good t) (store_of t)) WrongKind
+unfoldable pub store_read : List ℕ → Result StoreRecord Reason
+store_read t = slot_read (store_kind t) (store_good t) (store_of t)
 
 -- "For any answer that is an enum, a definition gives this paper's number and values for each of its cases": of a store record, the number of its kind and the
 -- values of its fields
@@ -185,19 +195,17 @@ store_fields (Standing s) = 4 ∷ s.k6 ∷ bulk_fields s.bulk
 store_fields (Aspiration a) = 5 ∷ a.dust ∷ a.store ∷ a.concentration ∷ a.flow ∷ a.capture ∷ a.hours ∷ []
 
 -- of a read, the number that refuses it, or 0, and the values that it hands over: those of the record, or none
-abbrev pub read_number : StoreRead → ℕ
-read_number (Record r) = 0
-read_number WrongKind = 8
-read_number OutOfRange = 9
+abbrev pub read_number : Result StoreRecord Reason → ℕ
+read_number (Ok r) = 0
+read_number (Err e) = answers.number_of e
 
-abbrev pub read_values : StoreRead → List ℕ
-read_values (Record r) = store_fields r
-read_values WrongKind = []
-read_values OutOfRange = []
+abbrev pub read_values : Result StoreRecord Reason → List ℕ
+read_values (Ok r) = store_fields r
+read_values (Err e) = []
 
 -- a store record's read is right where it is the one of the slot, with the paper's number and values; the first value is the slot's own kind
-pub record StoreReads (t : List ℕ) (r : StoreRead) : Type 0 where
-  pub read : r ≡ read_store t
+pub record StoreReads (t : List ℕ) (r : Result StoreRecord Reason) : Type 0 where
+  pub read : r ≡ store_read t
   pub number : read_number r ≡ number_of (store_kind t) (store_good t)
   pub values : read_values r ≡ if_then_else (store_kind t && store_good t) (store_fields (store_of t)) []
   pub kind : store_kind t ≡ true → get_or (store_fields (store_of t)) 0 0 ≡ byte_at t 2
@@ -220,5 +228,8 @@ locomotive_good t l = all_of (locomotive_good_tests t l)
 abbrev pub locomotive_kind : List ℕ → Bool
 locomotive_kind t = eqb (byte_at t 2) 6
 
-unfoldable pub locomotive_read : List ℕ → LocomotiveRead
-locomotive_read t = record { number = number_of (locomotive_kind t) (locomotive_good t (locomotive_of t)); locomotive = locomotive_of t; next = next_of t }
+unfoldable pub locomotive_slot_of : List ℕ → LocomotiveSlot
+locomotive_slot_of t = record { locomotive = locomotive_of t; next = next_of t }
+
+unfoldable pub locomotive_read : List ℕ → Result LocomotiveSlot Reason
+locomotive_read t = slot_read (locomotive_kind t) (locomotive_good t (locomotive_of t)) (locomotive_slot_of t)

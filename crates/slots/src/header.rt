@@ -1,9 +1,11 @@
 // Slot 0.
-ghost use Rattle.std.specs.Prelude.{◌≡◌, length};
-ghost use Rattle.slots.specs.Bytes.{slot_size, slot_of};
+ghost use Rattle.std.specs.Prelude.{◌≡◌};
+ghost use Rattle.slots.specs.Bytes.{slot_of};
 ghost use Rattle.slots.specs.Layout.{temperatures_of, header_of};
 
+use super::slot::{SLOT_SIZE, Slot};
 use super::{numbers, slot};
+use std::array;
 
 // The first slot of each chain, or 0.
 #[derive(Clone, Copy)]
@@ -23,32 +25,19 @@ pub struct Header {
     pub rest: bool,
 }
 
-fn temperatures_of(t: &[u8]) -> [i16; 12]
-    requires { length t.now ≡ slot_size }
+#[tactic(auto, unfolding(crate::specs::Layout::temperatures_of, crate::specs::Bytes::i16_at, sums::specs::Choice::list_to))]
+fn temperatures_of(t: &Slot) -> [i16; 12]
     ensures { result ≡ temperatures_of t.now }
 {
-    [
-        numbers::i16_at(t, 8),
-        numbers::i16_at(t, 10),
-        numbers::i16_at(t, 12),
-        numbers::i16_at(t, 14),
-        numbers::i16_at(t, 16),
-        numbers::i16_at(t, 18),
-        numbers::i16_at(t, 20),
-        numbers::i16_at(t, 22),
-        numbers::i16_at(t, 24),
-        numbers::i16_at(t, 26),
-        numbers::i16_at(t, 28),
-        numbers::i16_at(t, 30),
-    ]
+    array::from_fn(|m| numbers::i16_at(t, 8 + 2 * m))
 }
 
 // What slot 0 of a file holds.
+#[tactic(auto, unfolding(crate::specs::Layout::header_of))]
 pub fn read_header(file: &[u8]) -> Header
     ensures { result ≡ header_of (slot_of file.now 0) }
 {
-    let none = [0; slot::SLOT_SIZE];
-    let t = slot::slot_at(file, &none, 0);
+    let t = &slot::slot_at(file, 0).copied().unwrap_or([0; SLOT_SIZE]);
     Header {
         format: numbers::u16_at(t, 0),
         count: numbers::u16_at(t, 2),

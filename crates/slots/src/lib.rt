@@ -9,9 +9,9 @@ mod numbers;
 pub mod slot;
 pub mod store;
 
-pub use coefficients::{CoefficientsRead, read_coefficients};
-pub use group::{GroupRead, read_group};
+pub use coefficients::{CoefficientSlot, read_coefficients};
+pub use group::{GroupSlot, read_group};
 pub use header::{Header, Heads, read_header};
-pub use locomotive::{LocomotiveRead, read_locomotive};
+pub use locomotive::{LocomotiveSlot, read_locomotive};
 pub use slot::{SLOT_SIZE, next_of};
-pub use store::{StoreRead, StoreRecord, read_store};
+pub use store::{StoreRecord, read_store};

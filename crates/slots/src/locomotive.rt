@@ -1,34 +1,30 @@
 // A locomotive's slot.
-ghost use Rattle.std.specs.Prelude.{◌≡◌, length};
-ghost use Rattle.slots.specs.Bytes.{slot_size, slot_of};
-ghost use Rattle.slots.specs.Layout.{shares_of, locomotive_of, locomotive_good, locomotive_read};
+ghost use Rattle.std.specs.Prelude.{◌≡◌};
+ghost use Rattle.slots.specs.Bytes.{slot_of};
+ghost use Rattle.slots.specs.Layout.{shares_of, locomotive_of, locomotive_good, locomotive_slot_of, locomotive_read};
 
+use super::slot::{Content, Slot};
 use super::{numbers, slot};
 use locomotive_fields::{Locomotive, MODES};
+use std::array;
+use sums::Reason;
 
-// 0, or the number of the first of questions 8 and 9 that is answered no; the fields; the next index.
+// The fields and the next index.
 #[derive(Clone, Copy)]
-pub struct LocomotiveRead {
-    pub number: u8,
+pub struct LocomotiveSlot {
     pub locomotive: Locomotive,
     pub next: u16,
 }
 
-fn shares_of(t: &[u8]) -> [u16; MODES]
-    requires { length t.now ≡ slot_size }
+#[tactic(auto, unfolding(crate::specs::Layout::shares_of, sums::specs::Choice::list_to))]
+fn shares_of(t: &Slot) -> [u16; MODES]
     ensures { result ≡ shares_of t.now }
 {
-    [
-        numbers::u16_at(t, 4),
-        numbers::u16_at(t, 6),
-        numbers::u16_at(t, 8),
-        numbers::u16_at(t, 10),
-        numbers::u16_at(t, 12),
-    ]
+    array::from_fn(|k| numbers::u16_at(t, 4 + 2 * k))
 }
 
-fn locomotive_of(t: &[u8]) -> Locomotive
-    requires { length t.now ≡ slot_size }
+#[tactic(auto, unfolding(crate::specs::Layout::locomotive_of))]
+fn locomotive_of(t: &Slot) -> Locomotive
     ensures { result ≡ locomotive_of t.now }
 {
     Locomotive {
@@ -40,23 +36,34 @@ fn locomotive_of(t: &[u8]) -> Locomotive
     }
 }
 
-fn locomotive_good(t: &[u8], l: Locomotive) -> bool
-    requires { length t.now ≡ slot_size }
-    ensures { result ≡ locomotive_good t.now l }
-{
-    locomotive_fields::locomotive_in_range(l) & numbers::zero_from(t, 18, 46)
+#[tactic(auto, unfolding(crate::specs::Layout::locomotive_slot_of, crate::specs::Layout::locomotive_good))]
+impl Content for LocomotiveSlot {
+    ghost KIND = { 6 };
+
+    ghost fields = { locomotive_slot_of };
+
+    ghost good = { λ t s. locomotive_good t s.locomotive };
+
+    const KIND: u8 = 6;
+
+    fn fields(t: &Slot) -> Self {
+        Self {
+            locomotive: locomotive_of(t),
+            next: numbers::u16_at(t, 0),
+        }
+    }
+
+    fn good(self, t: &Slot) -> bool {
+        locomotive_fields::locomotive_in_range(self.locomotive) & numbers::zero_from(t, 18, 46)
+    }
+
+    ghost kind_is_named = { λ e. Prim.cc };
 }
 
 // What slot n of a file holds as a locomotive.
-pub fn read_locomotive(file: &[u8], n: usize) -> LocomotiveRead
+#[tactic(auto, unfolding(crate::specs::Layout::locomotive_read, crate::specs::Layout::locomotive_slot_of))]
+pub fn read_locomotive(file: &[u8], n: usize) -> Result<LocomotiveSlot, Reason>
     ensures { result ≡ locomotive_read (slot_of file.now n) }
 {
-    let none = [0; slot::SLOT_SIZE];
-    let t = slot::slot_at(file, &none, n);
-    let locomotive = locomotive_of(t);
-    LocomotiveRead {
-        number: numbers::number_of(t[2] == 6, locomotive_good(t, locomotive)),
-        locomotive,
-        next: numbers::u16_at(t, 0),
-    }
+    slot::read(file, n)
 }

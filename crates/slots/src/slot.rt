@@ -1,28 +1,70 @@
-// A slot's bytes, and its next index.
-ghost use Rattle.std.specs.Prelude.{◌≡◌, length, replicate};
-ghost use Rattle.slots.specs.Bytes.{slot_size, slot_of};
-ghost use Rattle.slots.specs.Layout.{next_of};
+// A slot's bytes, its next index, and what it holds.
+ghost use Rattle.std.specs.Prelude.{◌≡◌, ℕ, List, Bool, eqb, replicate, MatchOption};
+ghost use Rattle.slots.specs.Bytes.{slot_size, byte_at, slot_of};
+ghost use Rattle.slots.specs.Layout.{next_of, slot_read};
 
 use super::numbers;
+use sums::Reason;
 
 pub const SLOT_SIZE: usize = 64;
 
-// The bytes of slot n where they stand in the file, or `none`, as many zeros, where the file has no such slot.
-pub(crate) fn slot_at<'a>(file: &'a [u8], none: &'a [u8], n: usize) -> &'a [u8]
-    requires { none.now ≡ replicate slot_size 0 }
-    ensures { (result.now ≡ slot_of file.now n) × (length result.now ≡ slot_size) }
+pub(crate) type Slot = [u8; SLOT_SIZE];
+
+// The bytes of slot n where they stand in the file. A slot that the file does not have reads as zero.
+pub(crate) fn slot_at(file: &[u8], n: usize) -> Option<&Slot>
+    ensures { MatchOption result (slot_of file.now n ≡ replicate slot_size 0) (λ t. t.now ≡ slot_of file.now n) }
 {
-    if n < file.len() / SLOT_SIZE {
-        &file[SLOT_SIZE * n..SLOT_SIZE * n + SLOT_SIZE]
-    } else {
-        none
-    }
+    let (slots, _) = file.as_chunks();
+    slots.get(n)
 }
 
-// The next index of slot n.
+// The next index of slot n, 0 of a slot that the file does not have: it reads as zero.
 pub fn next_of(file: &[u8], n: usize) -> u16
     ensures { result ≡ next_of (slot_of file.now n) }
 {
-    let none = [0; SLOT_SIZE];
-    numbers::u16_at(slot_at(file, &none, n), 0)
+    slot_at(file, n).map_or(0, |t| numbers::u16_at(t, 0))
+}
+
+// The kind of slot n.
+pub(crate) fn kind_of(file: &[u8], n: usize) -> u8
+    ensures { result ≡ byte_at (slot_of file.now n) 2 }
+{
+    slot_at(file, n).map_or(0, |t| t[2])
+}
+
+// What a slot of one kind holds: its fields by their byte positions, and whether they are in range and every byte that is not named is zero.
+pub(crate) trait Content: Copy {
+    ghost KIND: { ℕ };
+
+    ghost fields: { List ℕ → Self };
+
+    ghost good: { List ℕ → Self → Bool };
+
+    const KIND: u8;
+
+    fn fields(t: &Slot) -> Self
+        ensures { result ≡ fields t.now };
+
+    fn good(self, t: &Slot) -> bool
+        ensures { result ≡ good t.now self };
+
+    // A slot that the file does not have is of no kind.
+    ghost kind_is_named: { KIND ≡ 0 → ⊥ };
+}
+
+// What slot n holds, or the question that it is refused by: 8 or 9.
+#[tactic(auto, unfolding(crate::specs::Layout::slot_read, sums::specs::Choice::if_then_else))]
+pub(crate) fn read<C: Content>(file: &[u8], n: usize) -> Result<C, Reason>
+    ensures { let t = slot_of file.now n in result ≡ slot_read (eqb (byte_at t 2) C.KIND) (C.good t (C.fields t)) (C.fields t) }
+{
+    let t = slot_at(file, n).ok_or(Reason::WrongKind)?;
+    if t[2] != C::KIND {
+        return Err(Reason::WrongKind);
+    }
+    let content = C::fields(t);
+    if content.good(t) {
+        Ok(content)
+    } else {
+        Err(Reason::OutOfRange)
+    }
 }

@@ -4,11 +4,11 @@
 ghost use Rattle.std.specs.Prelude.{◌≡◌};
 ghost use Rattle.vehicles.specs.Parts.{answer_in};
 ghost use Rattle.locomotives.specs.Rules.{locomotive_answer};
-ghost use Rattle.source_sums.specs.Added.{plus_group, record_emission, store_emission, plus_store, plus_locomotive};
+ghost use Rattle.source_sums.specs.Added.{plus_group, record_answer, plus_store, plus_locomotive};
 
 use locomotive_fields::Locomotive;
-use slots::{StoreRead, StoreRecord};
-use sums::Emission;
+use slots::StoreRecord;
+use sums::{Emission, Refusal};
 use vehicle_fields::{Coefficients, Group, POLLUTANTS};
 use warmups::Climate;
 
@@ -20,65 +20,50 @@ pub struct GroupSource {
 }
 
 // Adds a group's emissions in a climate.
+#[tactic(auto, unfolding(crate::specs::Added::plus_group, sums::specs::Choice::if_then_else))]
 pub fn add_group(totals: &mut [u64], summing: bool, climate: Climate, source: GroupSource)
     ensures { totals.new ≡ plus_group summing totals.old (answer_in source.group climate source.coefficients) }
 {
     if summing {
-        let group = source.group;
-        let coefficients = source.coefficients;
-        let answer = vehicles::emissions_in_climate(group, climate, coefficients);
-        let emissions = answer.emissions;
-        totals::add_all(totals, emissions);
+        let answer = vehicles::emissions_in_climate(source.group, climate, source.coefficients);
+        if let Ok(emissions) = answer {
+            totals::add_all(totals, emissions);
+        }
     }
 }
 
-fn record_emission(store: StoreRecord) -> Emission
-    ensures { result ≡ record_emission store }
+// By the rule of the record's kind.
+#[tactic(auto, unfolding(crate::specs::Added::record_answer))]
+fn record_emission(store: StoreRecord) -> Result<Emission, Refusal>
+    ensures { result ≡ record_answer store }
 {
     match store {
-        StoreRecord::Handling(h) => {
-            let answer = stores::handling_emission(h);
-            answer.emission
-        }
-        StoreRecord::Standing(s) => {
-            let answer = stores::standing_emission(s);
-            answer.emission
-        }
-        StoreRecord::Aspiration(a) => {
-            let answer = stores::aspiration_emission(a);
-            answer.emission
-        }
-    }
-}
-
-fn store_emission(read: StoreRead) -> Emission
-    ensures { result ≡ store_emission read }
-{
-    match read {
-        StoreRead::Record(store) => record_emission(store),
-        StoreRead::WrongKind => Emission::none(),
-        StoreRead::OutOfRange => Emission::none(),
+        StoreRecord::Handling(h) => stores::handling_emission(h),
+        StoreRecord::Standing(s) => stores::standing_emission(s),
+        StoreRecord::Aspiration(a) => stores::aspiration_emission(a),
     }
 }
 
 // Adds a store record's emission.
-pub fn add_store(totals: &mut [u64], summing: bool, read: StoreRead)
-    ensures { totals.new ≡ plus_store summing totals.old read }
+#[tactic(auto, unfolding(crate::specs::Added::plus_store, sums::specs::Choice::if_then_else))]
+pub fn add_store(totals: &mut [u64], summing: bool, store: StoreRecord)
+    ensures { totals.new ≡ plus_store summing totals.old store }
 {
     if summing {
-        totals::add(totals, store_emission(read));
+        if let Ok(emission) = record_emission(store) {
+            totals::add(totals, emission);
+        }
     }
 }
 
 // Adds a locomotive's emissions.
+#[tactic(auto, unfolding(crate::specs::Added::plus_locomotive, sums::specs::Choice::if_then_else))]
 pub fn add_locomotive(totals: &mut [u64], summing: bool, locomotive: Locomotive)
     ensures { totals.new ≡ plus_locomotive summing totals.old (locomotive_answer locomotive) }
 {
     if summing {
-        let answer = locomotives::locomotive_emissions(locomotive);
-        let emissions = answer.emissions;
-        totals::add(totals, emissions[0]);
-        totals::add(totals, emissions[1]);
-        totals::add(totals, emissions[2]);
+        if let Ok(emissions) = locomotives::locomotive_emissions(locomotive) {
+            totals::add_all(totals, emissions);
+        }
     }
 }

@@ -40,6 +40,8 @@ pub struct Aspiration {
     pub hours: u16,
 }
 
+// Two comparisons for each range, as the definition lists them: by `contains` it is no cheaper, and its proof is longer.
+#[tactic(auto, unfolding(crate::specs::Fields::bulk_in_range))]
 fn bulk_in_range(b: Bulk) -> bool
     ensures { result ≡ bulk_in_range b }
 {
@@ -55,20 +57,21 @@ fn bulk_in_range(b: Bulk) -> bool
         & (b.amount <= 1_000_000)
 }
 
+#[tactic(auto, unfolding(crate::specs::Fields::handling_in_range))]
 pub fn handling_in_range(h: Handling) -> bool
     ensures { result ≡ handling_in_range h }
 {
-    let b = h.bulk;
-    bulk_in_range(b) & (1 <= h.drop) & (h.drop <= 8)
+    bulk_in_range(h.bulk) & (1 <= h.drop) & (h.drop <= 8)
 }
 
+#[tactic(auto, unfolding(crate::specs::Fields::standing_in_range))]
 pub fn standing_in_range(s: Standing) -> bool
     ensures { result ≡ standing_in_range s }
 {
-    let b = s.bulk;
-    bulk_in_range(b) & (s.k6 <= 200) & ((s.k6 == 0) | (100 <= s.k6))
+    bulk_in_range(s.bulk) & (s.k6 <= 200) & ((s.k6 == 0) | (100 <= s.k6))
 }
 
+#[tactic(auto, unfolding(crate::specs::Fields::aspiration_in_range))]
 pub fn aspiration_in_range(a: Aspiration) -> bool
     ensures { result ≡ aspiration_in_range a }
 {

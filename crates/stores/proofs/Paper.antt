@@ -4,12 +4,12 @@ use Rattle.sums.specs.Fraction.{Frac, ◌over◌, ◌≈◌}
 use Rattle.sums.specs.Figures.{annual_of, peak_of}
 use Rattle.sums.proofs.Fractions.{≈_refl, ≈_⊙, ≈_per, ≈_over, parts}
 use Rattle.sums.specs.Exactness.{Counted}
-use Rattle.sums.specs.Answer.{contribution}
+use Rattle.sums.specs.Answer.{contribution, emitted}
 use Rattle.store_records.specs.declared.records.Handling.{Handling}
 use Rattle.store_records.specs.declared.records.Standing.{Standing}
 use Rattle.store_records.specs.declared.records.Aspiration.{Aspiration}
-use Rattle.stores.specs.Rules.{handling_peak, standing_peak, bulk_tonnes, aspiration_peak, aspiration_tonnes, dust_code, store_answer}
-use Rattle.stores.specs.Parts.{exposure_parts, handling_parts, standing_parts, aspiration_parts, bulk_units, bulk_year_units, aspiration_units, aspiration_hour_units, answer_of}
+use Rattle.stores.specs.Rules.{handling_peak, standing_peak, bulk_tonnes, aspiration_peak, aspiration_tonnes, dust_code}
+use Rattle.stores.specs.Parts.{exposure_parts, handling_parts, standing_parts, aspiration_parts, bulk_units, bulk_year_units, aspiration_units, aspiration_hour_units, emission_of}
 use Rattle.stores.proofs.TableTests.{k1_scaled, k2_scaled, q_scaled, k3_scaled, k4_scaled, k5_scaled, k6_same, k7_scaled, drop_scaled}
 
 handling_parts_lem : (h : Handling) → handling_peak h ≈ (handling_parts h over 6000000000000)
@@ -61,5 +61,5 @@ aspiration_counted a =
     }
 
 -- the sums of so many units are the rule's answer
-pub summed : {tonnes rate : Frac} {a p : ℕ} (dust : ℕ) → Counted tonnes rate a p → answer_of dust (annual_of a) (peak_of p) ≡ store_answer (contribution (dust_code dust) tonnes rate)
+pub summed : {tonnes rate : Frac} {a p : ℕ} (dust : ℕ) → Counted tonnes rate a p → emission_of dust (annual_of a) (peak_of p) ≡ emitted (contribution (dust_code dust) tonnes rate)
 summed dust e = rw (parts e.annual, parts e.peak)

@@ -1,16 +1,13 @@
 -- What inner functions compute: the peaks of the rules as whole numbers of parts. The proofs show that they are the fractions of Rules.
 use Rattle.std.specs.Prelude.{ℕ, ◌*◌, ◌/◌, ◌-◌}
 use Rattle.sums.specs.Fraction.{parts_of}
-use Rattle.sums.specs.Figures.{tonne_parts, gram_parts}
-use Rattle.sums.specs.Answer.{no_refusal}
-use Rattle.sums.specs.declared.annual.AnnualSum.{AnnualSum}
-use Rattle.sums.specs.declared.peak.PeakSum.{PeakSum}
+use Rattle.sums.specs.Figures.{tonne_parts, gram_parts, AnnualSum, PeakSum}
 use Rattle.store_records.specs.declared.records.Bulk.{Bulk}
 use Rattle.store_records.specs.declared.records.Handling.{Handling}
 use Rattle.store_records.specs.declared.records.Standing.{Standing}
 use Rattle.store_records.specs.declared.records.Aspiration.{Aspiration}
 use Rattle.stores.specs.Rules.{numbered, k1_table, k2_table, q_table, k3_of, k4_table, k5_of, k6_of, k7_of, drop_table, dust_code}
-use Rattle.stores.specs.declared.rules.StoreAnswer.{StoreAnswer}
+use Rattle.sums.specs.declared.answer.Emission.{Emission}
 
 -- K3 K4 K5 K7, in ten-millionths
 unfoldable pub exposure_parts : Bulk → ℕ
@@ -47,6 +44,6 @@ aspiration_units = gram_parts / 10000000000
 abbrev pub aspiration_hour_units : ℕ
 aspiration_hour_units = 3600 * mass_units
 
--- an answer by its sums
-abbrev pub answer_of : ℕ → AnnualSum → PeakSum → StoreAnswer
-answer_of dust a p = record { verdict = no_refusal; emission = record { code = dust_code dust; annual = a; peak = p } }
+-- an emission by its sums
+abbrev pub emission_of : ℕ → AnnualSum → PeakSum → Emission
+emission_of dust a p = record { code = dust_code dust; annual = a; peak = p }

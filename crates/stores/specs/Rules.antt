@@ -1,14 +1,16 @@
 -- 01, "Store rules", over the tables 2 to 7 of SO 153-34.02.317-2003 (source document 000).
-use Rattle.std.specs.Prelude.{ℕ, ◌-◌, List, [], ◌∷◌, map, eqb, get_or}
+use Rattle.std.specs.Prelude.{ℕ, ◌-◌, List, [], ◌∷◌, map, eqb, get_or, Result, Ok}
 use Rattle.sums.specs.Choice.{if_then_else}
 use Rattle.sums.specs.Fraction.{Frac, ◌over◌, whole, ◌⊙◌, ◌per◌}
 use Rattle.sums.specs.Table.{Line, to, up_to}
-use Rattle.sums.specs.Answer.{Contribution, contribution, no_refusal, refused_by, emitted, no_emission}
+use Rattle.sums.specs.Answer.{Contribution, contribution, refused_by, emitted}
+use Rattle.sums.specs.declared.answer.Reason.TheVariants.{OutOfRange}
+use Rattle.sums.specs.declared.answer.Refusal.{Refusal}
+use Rattle.sums.specs.declared.answer.Emission.{Emission}
 use Rattle.store_records.specs.Fields.{handling_in_range, standing_in_range, aspiration_in_range}
 use Rattle.store_records.specs.declared.records.Handling.{Handling}
 use Rattle.store_records.specs.declared.records.Standing.{Standing}
 use Rattle.store_records.specs.declared.records.Aspiration.{Aspiration}
-use Rattle.stores.specs.declared.rules.StoreAnswer.{StoreAnswer}
 
 -- "Materials 1 to 9 (K1, K2, Q)", table 2 of 000
 pub record Material : Type 0 where
@@ -123,12 +125,16 @@ standing_contribution s = contribution (dust_code s.bulk.dust) (bulk_tonnes (sta
 abbrev pub aspiration_contribution : Aspiration → Contribution
 aspiration_contribution a = contribution (dust_code a.dust) (aspiration_tonnes (aspiration_peak a) a.hours) (aspiration_peak a)
 
--- a record in range is answered what it gives, exactly (`Exactly.handling_exactly`, `standing_exactly`, `aspiration_exactly`); one out of range is refused 9, with zero figures and slot 0
+-- what a rule answers: what the record gives, or why it is refused
+abbrev pub StoreAnswer : Type 0
+StoreAnswer = Result Emission Refusal
+
+-- a record in range is answered what it gives, exactly (`Exactly.handling_exactly`, `standing_exactly`, `aspiration_exactly`); one out of range is refused 9, with slot 0
 abbrev pub store_answer : Contribution → StoreAnswer
-store_answer x = record { verdict = no_refusal; emission = emitted x }
+store_answer x = Ok (emitted x)
 
 abbrev pub out_of_range : StoreAnswer
-out_of_range = record { verdict = refused_by 9; emission = no_emission }
+out_of_range = refused_by OutOfRange
 
 unfoldable pub handling_answer : Handling → StoreAnswer
 handling_answer h = if_then_else (handling_in_range h) (store_answer (handling_contribution h)) out_of_range

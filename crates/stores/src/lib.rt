@@ -4,4 +4,4 @@
 pub mod rules;
 mod tables;
 
-pub use rules::{StoreAnswer, aspiration_emission, handling_emission, standing_emission};
+pub use rules::{aspiration_emission, handling_emission, standing_emission};

@@ -2,18 +2,12 @@
 ghost use Rattle.std.specs.Prelude.{◌≡◌, true, ◌*◌, ◌≤◌};
 ghost use Rattle.sums.specs.Figures.{annual_of, peak_of};
 ghost use Rattle.store_records.specs.Fields.{bulk_in_range, handling_in_range, standing_in_range, aspiration_in_range};
-ghost use Rattle.stores.specs.Rules.{out_of_range, handling_answer, standing_answer, aspiration_answer};
-ghost use Rattle.stores.specs.Parts.{exposure_parts, handling_parts, standing_parts, aspiration_parts, bulk_units, bulk_year_units, aspiration_units, aspiration_hour_units, answer_of};
+ghost use Rattle.stores.specs.Rules.{handling_answer, standing_answer, aspiration_answer};
+ghost use Rattle.stores.specs.Parts.{exposure_parts, handling_parts, standing_parts, aspiration_parts, bulk_units, bulk_year_units, aspiration_units, aspiration_hour_units, emission_of};
 
 use super::tables;
 use store_records::{Aspiration, Bulk, Handling, Standing};
-use sums::{AnnualSum, Emission, PeakSum, Verdict};
-
-#[derive(Clone, Copy)]
-pub struct StoreAnswer {
-    pub verdict: Verdict,
-    pub emission: Emission,
-}
+use sums::{AnnualSum, Emission, PeakSum, Reason, Refusal};
 
 // K3 K4 K5 K7, in ten-millionths.
 fn exposure(b: Bulk) -> u64
@@ -32,7 +26,7 @@ fn handling_parts(h: Handling) -> u64
     5 * tables::k1(b.material)
         * tables::k2(b.material)
         * exposure(b)
-        * (b.amount as u64)
+        * u64::from(b.amount)
         * tables::drop_factor(h.drop)
 }
 
@@ -41,7 +35,7 @@ fn standing_parts(s: Standing) -> u64
     ensures { result ≡ standing_parts s }
 {
     let b = s.bulk;
-    6 * exposure(b) * tables::k6(s.k6) * tables::q(b.material) * (b.amount as u64)
+    6 * exposure(b) * tables::k6(s.k6) * tables::q(b.material) * u64::from(b.amount)
 }
 
 // Grams per second at the peak, in 10,000,000,000ths.
@@ -49,20 +43,17 @@ fn aspiration_parts(a: Aspiration) -> u64
     requires { aspiration_in_range a ≡ true }
     ensures { result ≡ aspiration_parts a }
 {
-    (a.concentration as u64) * (a.flow as u64) * ((10_000 - a.capture) as u64)
+    u64::from(a.concentration) * u64::from(a.flow) * u64::from(10_000 - a.capture)
 }
 
-fn store_answer(dust: u8, annual: AnnualSum, peak: PeakSum) -> StoreAnswer
+fn emission_of(dust: u8, annual: AnnualSum, peak: PeakSum) -> Emission
     requires { (1 ≤ dust) × (dust ≤ 3) }
-    ensures { result ≡ answer_of dust annual peak }
+    ensures { result ≡ emission_of dust annual peak }
 {
-    StoreAnswer {
-        verdict: Verdict { number: 0, slot: 0 },
-        emission: Emission {
-            code: tables::code_of(dust),
-            annual,
-            peak,
-        },
+    Emission {
+        code: tables::code_of(dust),
+        annual,
+        peak,
     }
 }
 
@@ -81,11 +72,11 @@ const ASPIRATION_UNITS: u32 = (PeakSum::DENOMINATOR / 1_000) as u32;
 const ASPIRATION_HOUR_UNITS: u32 = 3_600 * MASS_UNITS;
 
 // A peak in 6,000,000,000,000ths of a gram per second.
-fn bulk_answer(dust: u8, parts: u64) -> StoreAnswer
+fn bulk_emission(dust: u8, parts: u64) -> Emission
     requires { (1 ≤ dust) × (dust ≤ 3) }
-    ensures { result ≡ answer_of dust (annual_of (parts * bulk_year_units)) (peak_of (parts * bulk_units)) }
+    ensures { result ≡ emission_of dust (annual_of (parts * bulk_year_units)) (peak_of (parts * bulk_units)) }
 {
-    store_answer(
+    emission_of(
         dust,
         AnnualSum::of(parts).times(BULK_YEAR_UNITS),
         PeakSum::of(parts).times(BULK_UNITS),
@@ -93,11 +84,11 @@ fn bulk_answer(dust: u8, parts: u64) -> StoreAnswer
 }
 
 // A peak in 10,000,000,000ths of a gram per second.
-fn aspiration_answer(dust: u8, parts: u64, hours: u16) -> StoreAnswer
+fn aspirated_emission(dust: u8, parts: u64, hours: u16) -> Emission
     requires { (1 ≤ dust) × (dust ≤ 3) }
-    ensures { result ≡ answer_of dust (annual_of (parts * hours * aspiration_hour_units)) (peak_of (parts * aspiration_units)) }
+    ensures { result ≡ emission_of dust (annual_of (parts * hours * aspiration_hour_units)) (peak_of (parts * aspiration_units)) }
 {
-    store_answer(
+    emission_of(
         dust,
         AnnualSum::of(parts)
             .times(hours as u32)
@@ -106,43 +97,38 @@ fn aspiration_answer(dust: u8, parts: u64, hours: u16) -> StoreAnswer
     )
 }
 
-fn out_of_range() -> StoreAnswer
-    ensures { result ≡ out_of_range }
-{
-    StoreAnswer {
-        verdict: Verdict { number: 9, slot: 0 },
-        emission: Emission::none(),
-    }
-}
+// "such a rule answers 9 ... with ... slot 0".
+const OUT_OF_RANGE: Refusal = Refusal {
+    reason: Reason::OutOfRange,
+    slot: 0,
+};
 
-pub fn handling_emission(h: Handling) -> StoreAnswer
+// A function for each kind of record: a trait over the three would be longer than they are.
+pub fn handling_emission(h: Handling) -> Result<Emission, Refusal>
     ensures { result ≡ handling_answer h }
 {
-    if store_records::handling_in_range(h) {
-        let b = h.bulk;
-        bulk_answer(b.dust, handling_parts(h))
-    } else {
-        out_of_range()
+    if !store_records::handling_in_range(h) {
+        return Err(OUT_OF_RANGE);
     }
+    let b = h.bulk;
+    Ok(bulk_emission(b.dust, handling_parts(h)))
 }
 
-pub fn standing_emission(s: Standing) -> StoreAnswer
+pub fn standing_emission(s: Standing) -> Result<Emission, Refusal>
     ensures { result ≡ standing_answer s }
 {
-    if store_records::standing_in_range(s) {
-        let b = s.bulk;
-        bulk_answer(b.dust, standing_parts(s))
-    } else {
-        out_of_range()
+    if !store_records::standing_in_range(s) {
+        return Err(OUT_OF_RANGE);
     }
+    let b = s.bulk;
+    Ok(bulk_emission(b.dust, standing_parts(s)))
 }
 
-pub fn aspiration_emission(a: Aspiration) -> StoreAnswer
+pub fn aspiration_emission(a: Aspiration) -> Result<Emission, Refusal>
     ensures { result ≡ aspiration_answer a }
 {
-    if store_records::aspiration_in_range(a) {
-        aspiration_answer(a.dust, aspiration_parts(a), a.hours)
-    } else {
-        out_of_range()
+    if !store_records::aspiration_in_range(a) {
+        return Err(OUT_OF_RANGE);
     }
+    Ok(aspirated_emission(a.dust, aspiration_parts(a), a.hours))
 }

@@ -1,5 +1,5 @@
 // The tables 2 to 7 of SO 153-34.02.317-2003, each in whole parts of one denominator.
-ghost use Rattle.std.specs.Prelude.{◌≡◌, ◌≤◌};
+ghost use Rattle.std.specs.Prelude.{◌≡◌, ◌≤◌, ◌-◌, get_or};
 ghost use Rattle.sums.specs.Fraction.{parts_of};
 ghost use Rattle.sums.specs.Table.{line_of, bounds};
 ghost use Rattle.stores.specs.Rules.{numbered, k1_table, k2_table, q_table, k3_table, k3_of, k4_table, k5_table, k5_of, k6_of, k7_table, k7_of, drop_table, dust_code};
@@ -29,30 +29,37 @@ const DROP: [u64; 8] = [1, 5, 6, 7, 10, 15, 20, 25];
 // The substance code of each dust.
 const CODES: [u16; 3] = [152, 2908, 2909];
 
+// The entry of a table by its number, from 1.
+fn entry<T: Copy, const N: usize>(table: &[T; N], number: u8) -> T
+    requires { (1 ≤ number) × (number ≤ N) }
+    ensures { result ≡ get_or table.now (number - 1) result }
+{
+    table[usize::from(number - 1)]
+}
+
+// Each table has a function of its own, since each promises another fraction of the papers.
 pub(crate) fn k1(material: u8) -> u64
     requires { (1 ≤ material) × (material ≤ 9) }
     ensures { (result ≡ parts_of 100 (numbered k1_table material)) × (result ≤ 7) }
 {
-    let at = (material - 1) as usize;
-    K1[at]
+    entry(&K1, material)
 }
 
 pub(crate) fn k2(material: u8) -> u64
     requires { (1 ≤ material) × (material ≤ 9) }
     ensures { (result ≡ parts_of 100 (numbered k2_table material)) × (result ≤ 3) }
 {
-    let at = (material - 1) as usize;
-    K2[at]
+    entry(&K2, material)
 }
 
 pub(crate) fn q(material: u8) -> u64
     requires { (1 ≤ material) × (material ≤ 9) }
     ensures { (result ≡ parts_of 1000 (numbered q_table material)) × (result ≤ 5) }
 {
-    let at = (material - 1) as usize;
-    Q[at]
+    entry(&Q, material)
 }
 
+// The line of its table that a value is up to: by `match`, the form that 01 names for wind, moisture and grain.
 fn wind_band(wind: u16) -> usize
     ensures { result ≡ line_of (bounds k3_table) wind }
 {
@@ -77,8 +84,7 @@ pub(crate) fn k4(openness: u8) -> u64
     requires { (1 ≤ openness) × (openness ≤ 7) }
     ensures { (result ≡ parts_of 1000 (numbered k4_table openness)) × (result ≤ 1000) }
 {
-    let at = (openness - 1) as usize;
-    K4[at]
+    entry(&K4, openness)
 }
 
 fn moisture_band(moisture: u16) -> usize
@@ -112,7 +118,7 @@ pub(crate) fn k6(hundredths: u16) -> u64
     if hundredths == 0 {
         130
     } else {
-        hundredths as u64
+        u64::from(hundredths)
     }
 }
 
@@ -142,14 +148,12 @@ pub(crate) fn drop_factor(class: u8) -> u64
     requires { (1 ≤ class) × (class ≤ 8) }
     ensures { (result ≡ parts_of 10 (numbered drop_table class)) × (result ≤ 25) }
 {
-    let at = (class - 1) as usize;
-    DROP[at]
+    entry(&DROP, class)
 }
 
 pub(crate) fn code_of(dust: u8) -> u16
     requires { (1 ≤ dust) × (dust ≤ 3) }
     ensures { result ≡ dust_code dust }
 {
-    let at = (dust - 1) as usize;
-    CODES[at]
+    entry(&CODES, dust)
 }

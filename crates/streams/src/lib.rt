@@ -10,7 +10,8 @@ use std::io;
 use std::io::{Read, Write};
 
 // Reads until buf is full or the input ends, and returns how many bytes now stand at its start. The
-// first read that fails ends it, and an empty buf is not read into.
+// first read that fails ends it, and an empty buf is not read into. (A loop of its own, since
+// `read_exact` does not count what it read before the end, and `read_to_end` wants a heap.)
 pub fn read_full<R: Read>(input: &mut R, buf: &mut [u8]) -> io::Result<usize>
     ensures in_bounds { ReadsAtMost result buf.new }
     ensures bytes { IfOk result

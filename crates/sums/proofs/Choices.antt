@@ -1,6 +1,10 @@
 -- A choice follows from its test; all of a list's tests, from the one; sums and tests up to n, one step at a time.
 -- Assumes nothing.
-use Rattle.std.proofs.Common.{◌≡◌, ℕ, zero, suc, ◌+◌, ◌*◌, ◌<◌, ◌≤◌, Bool, true, false, ◌&&◌, T, leb, List, [], ◌∷◌, map, length, get_or, set, sym, refl, ◌∙◌, subst, ⊎_elim, zero-le, le_of_suc-le-suc, not-suc-le-zero, eq-or-lt_of_le, le_of_mul-le-mul_right, add-one, arith, get_or-set_other, get_or-set_same, below_more, leb-true}
+use Rattle.std.proofs.Common.{◌≡◌, ℕ, zero, suc, sum, ◌+◌, ◌*◌, ◌<◌, ◌≤◌, Bool, true, false, ◌&&◌, T, leb, List, [], ◌∷◌, ◌++◌, map, length, get_or, set, sym, refl, ap, ◌∙◌, subst, ⊎_elim, zero-le, le_of_suc-le-suc, not-suc-le-zero, eq-or-lt_of_le, le_of_mul-le-mul_right, add-one, arith, get_or-set_other, get_or-set_same, below_more, leb-true}
+use Rattle.std.proofs.Math.Bool.{and-true, and_assoc}
+use Rattle.std.proofs.lemmas.List.Folds.{list_all-append}
+use Rattle.std.proofs.lemmas.List.Sums.{sum_by-cons}
+use Rattle.std.specs.List.{list_all, zip}
 use Rattle.sums.specs.Choice.{if_then_else, all_from, all_of, all_to, sum_to, list_to}
 
 pub yes : {A : Type 0} (t : Bool) (r a b : A) → t ≡ true → r ≡ a → r ≡ if_then_else t a b
@@ -67,6 +71,45 @@ unfolding all_to
 all_to_of zero f h = refl
 all_to_of (suc n) f h = rw (all_to_of n f (λ (k : ℕ) (p : k < n). h k (omega arith)), h n (omega arith))
 
+all_to_front : (n : ℕ) (f : ℕ → Bool) → all_to (suc n) f ≡ (f 0 && all_to n (λ (i : ℕ). f (suc i)))
+unfolding all_to
+all_to_front zero f = sym (and-true (f 0))
+all_to_front (suc n) f = rw (all_to_front n f) (and_assoc (f 0) (all_to n (λ (i : ℕ). f (suc i))) (f (suc n)))
+
+-- the tests of a list's items are those at its places
+pub all_to_list : {A : Type 0} (d : A) (p : A → Bool) (n : ℕ) (f : ℕ → Bool) (l : List A) → length l ≡ n → ((m : ℕ) → m < n → p (get_or l m d) ≡ f m) → list_all p l ≡ all_to n f
+unfolding all_to
+all_to_list d p zero f [] e h = refl
+all_to_list d p zero f (a ∷ l) e h = absurd (omega arith)
+all_to_list d p (suc n) f [] e h = absurd (omega arith)
+all_to_list d p (suc n) f (a ∷ l) e h =
+    rw (h zero (omega arith), all_to_list d p n (λ (m : ℕ). f (suc m)) l (omega arith) (λ (m : ℕ) (q : m < n). h (suc m) (omega arith)))
+    (sym (all_to_front n f))
+
+-- the tests of two lists' items, pair by pair
+pub all_to_pairs : {A B : Type 0} (d : A) (e : B) (p : A → B → Bool) (n : ℕ) (l : List A) (k : List B) → length l ≡ n → length k ≡ n
+    → list_all (λ (x : A × B). p x.0 x.1) (zip l k) ≡ all_to n (λ (m : ℕ). p (get_or l m d) (get_or k m e))
+unfolding all_to
+all_to_pairs d e p zero [] k g h = refl
+all_to_pairs d e p zero (a ∷ l) k g h = absurd (omega arith)
+all_to_pairs d e p (suc n) [] k g h = absurd (omega arith)
+all_to_pairs d e p (suc n) (a ∷ l) [] g h = absurd (omega arith)
+all_to_pairs d e p (suc n) (a ∷ l) (b ∷ k) g h =
+    rw (all_to_pairs d e p n l k (omega arith) (omega arith))
+    (sym (all_to_front n (λ (m : ℕ). p (get_or (a ∷ l) m d) (get_or (b ∷ k) m e))))
+
+all_from_map : {A : Type 0} (p : A → Bool) (b : Bool) (l : List A) → (b && list_all p l) ≡ all_from b (map p l)
+all_from_map p b [] = and-true b
+all_from_map p b (a ∷ l) = sym (and_assoc b (p a) (list_all p l)) ∙ all_from_map p (b && p a) l
+
+-- the tests of a list's items are the one test of all
+pub all_of_map : {A : Type 0} (p : A → Bool) (l : List A) → list_all p l ≡ all_of (map p l)
+all_of_map p l = all_from_map p true l
+
+-- one item more
+pub tests_push : {A : Type 0} (p : A → Bool) (l : List A) (a : A) → list_all p (l ++ (a ∷ [])) ≡ (list_all p l && p a)
+tests_push p l a = rw (list_all-append p l (a ∷ []), and-true (p a))
+
 pub sum_to_step : (n : ℕ) (f : ℕ → ℕ) → sum_to (n + 1) f ≡ sum_to n f + f n
 unfolding sum_to
 sum_to_step n f = rw add-one
@@ -75,6 +118,15 @@ pub sum_to_front : (n : ℕ) (f : ℕ → ℕ) → sum_to (suc n) f ≡ f 0 + su
 unfolding sum_to
 sum_to_front zero f = omega arith
 sum_to_front (suc n) f = omega (arith, sum_to_front n f)
+
+pub sum_to_list : (n : ℕ) (l : List ℕ) → length l ≡ n → sum l ≡ sum_to n (λ (i : ℕ). get_or l i 0)
+unfolding sum_to
+sum_to_list zero [] e = refl
+sum_to_list zero (a ∷ l) e = absurd (omega arith)
+sum_to_list (suc n) [] e = absurd (omega arith)
+sum_to_list (suc n) (a ∷ l) e =
+    let s : sum l ≡ sum_to n (λ (i : ℕ). get_or l i 0) = sum_to_list n l (omega arith) in
+    sum_by-cons (λ (x : ℕ). x) a l ∙ (ap (λ (k : ℕ). a + k) s ∙ sym (sum_to_front n (λ (i : ℕ). get_or (a ∷ l) i 0)))
 
 pub sum_to_times : (k : ℕ) (f : ℕ → ℕ) (n : ℕ) → sum_to n (λ (i : ℕ). f i * k) ≡ sum_to n f * k
 unfolding sum_to

@@ -4,8 +4,8 @@ pub mod Products
 pub mod Fractions
 pub mod Tables
 pub mod Wrapping
-pub mod Carrying
 pub mod LongDivision
+pub mod Nearest
 pub mod Rounding
 pub mod Exact
 pub mod Figure

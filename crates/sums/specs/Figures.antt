@@ -3,8 +3,9 @@ use Rattle.std.specs.Prelude.{◌≡◌, ℕ, ◌+◌, ◌*◌, ◌/◌, ◌%◌
 use Rattle.sums.specs.Fraction.{Frac, ◌over◌, parts_of}
 use Rattle.sums.specs.declared.mixed.Mixed.{Mixed}
 use Rattle.sums.specs.declared.words.Words.{Words}
-use Rattle.sums.specs.declared.annual.AnnualSum.{AnnualSum}
-use Rattle.sums.specs.declared.peak.PeakSum.{PeakSum}
+use Rattle.sums.specs.declared.sum.Annual.{Annual}
+use Rattle.sums.specs.declared.sum.Peak.{Peak}
+use Rattle.sums.specs.declared.sum.Sum.{Sum}
 
 -- "Annual: whole millionths of a tonne. Peak: whole ten-millionths of a gram per second. Every exact unit has one denominator":
 -- the exact units in a millionth of a tonne, and in a ten-millionth of a gram per second
@@ -28,18 +29,34 @@ units_in w = w.high * 2 ^ 64 + w.low
 unfoldable pub words_of : ℕ → Words
 words_of x = record { high = x / 2 ^ 64 % 2 ^ 64; low = x % 2 ^ 64 }
 
--- the exact units of a sum, and the sum of so many
+-- the exact units of a sum, the sum in two words (beside them it holds nothing but its unit), and that of so many units
+abbrev pub sum_parts : {u : Type 0} → Sum u → ℕ
+sum_parts s = units_in s.0
+
+abbrev pub sum_in : {u : Type 0} → Words → Sum u
+sum_in w = record { 0 = w; 1 = record {} }
+
+abbrev pub sum_of : {u : Type 0} → ℕ → Sum u
+sum_of x = sum_in (words_of x)
+
+-- of a year, and of a peak
+abbrev pub AnnualSum : Type 0
+AnnualSum = Sum Annual
+
+abbrev pub PeakSum : Type 0
+PeakSum = Sum Peak
+
 abbrev pub annual_parts : AnnualSum → ℕ
-annual_parts s = units_in s.0
+annual_parts = sum_parts
 
 abbrev pub annual_of : ℕ → AnnualSum
-annual_of x = record { 0 = words_of x }
+annual_of = sum_of
 
 abbrev pub peak_parts : PeakSum → ℕ
-peak_parts s = units_in s.0
+peak_parts = sum_parts
 
 abbrev pub peak_of : ℕ → PeakSum
-peak_of x = record { 0 = words_of x }
+peak_of = sum_of
 
 -- whole units and a part of one over d count so many d-ths
 unfoldable pub parts_in : ℕ → Mixed → ℕ
@@ -49,12 +66,15 @@ parts_in d m = m.whole * d + m.part
 unfoldable pub mixed_of : ℕ → ℕ → Mixed
 mixed_of d x = record { whole = x / d % 2 ^ 64; part = x % d }
 
--- a sum in printed units
+-- a sum in printed units, with d exact ones in each
+abbrev pub sum_printed : {u : Type 0} → ℕ → Sum u → Mixed
+sum_printed d s = mixed_of d (sum_parts s)
+
 abbrev pub annual_printed : AnnualSum → Mixed
-annual_printed s = mixed_of annual_denominator (annual_parts s)
+annual_printed = sum_printed annual_denominator
 
 abbrev pub peak_printed : PeakSum → Mixed
-peak_printed s = mixed_of peak_denominator (peak_parts s)
+peak_printed = sum_printed peak_denominator
 
 -- "The figure is the largest whole number of its units that isn't above the exact sum plus half a unit": of x units
 unfoldable pub nearest : Frac → ℕ
@@ -69,11 +89,14 @@ pub record Rounded (figure : ℕ) (x : Frac) : Type 0 where
   pub half : (n : ℕ) → 2 * x.num + x.den ≡ 2 * (n * x.den) → figure ≡ n
 
 -- the figure of a sum
+abbrev pub sum_rounded : {u : Type 0} → ℕ → Sum u → ℕ
+sum_rounded d s = nearest (sum_parts s over d)
+
 abbrev pub annual_rounded : AnnualSum → ℕ
-annual_rounded s = nearest (annual_parts s over annual_denominator)
+annual_rounded = sum_rounded annual_denominator
 
 abbrev pub peak_rounded : PeakSum → ℕ
-peak_rounded s = nearest (peak_parts s over peak_denominator)
+peak_rounded = sum_rounded peak_denominator
 
 -- the sum of so many tonnes, and of so many grams per second
 abbrev pub annual_sum : Frac → AnnualSum

@@ -1,15 +1,50 @@
-// What a source rule answers: a verdict, and what the source gives to substances.
+// What a source rule answers: what the source gives to substances, or why it is refused.
 ghost use Rattle.std.specs.Prelude.{◌≡◌};
-ghost use Rattle.sums.specs.Answer.{no_emission};
+ghost use Rattle.sums.specs.Answer.{number_of, of_source, no_emission};
 
-use super::annual::AnnualSum;
-use super::peak::PeakSum;
+use super::sum::{AnnualSum, PeakSum};
 
-// The number of the question that was answered no and a slot; 0 and 0 where none was.
-#[derive(Clone, Copy)]
-pub struct Verdict {
-    pub number: u8,
+// Why a file, a source or a listing is refused: the question that is answered no, by its number in 01 and 02.
+#[derive(Clone, Copy, PartialEq, Eq)]
+pub enum Reason {
+    Length = 1,
+    Format = 2,
+    Count = 3,
+    HeaderBytes = 4,
+    Temperatures = 5,
+    LinkPastEnd = 6,
+    Repeated = 7,
+    WrongKind = 8,
+    OutOfRange = 9,
+    CoefficientChain = 10,
+    SootOrLead = 11,
+    Unreached = 12,
+    ShortBuffer = 13,
+    Shares = 14,
+}
+
+impl From<Reason> for u8 {
+    ghost from_gives = { λ r n. n ≡ number_of r };
+
+    fn from(r: Reason) -> u8 {
+        r as u8
+    }
+}
+
+// A reason, and the slot that it is told of.
+#[derive(Clone, Copy, PartialEq, Eq)]
+pub struct Refusal {
+    pub reason: Reason,
     pub slot: u16,
+}
+
+impl Refusal {
+    // Of a source that a rule is asked of: it has no slot.
+    pub fn of_source(reason: Reason) -> Self
+        ensures { result ≡ of_source reason }
+    {
+        Self { reason, slot: 0 }
+    }
 }
 
 // What a source gives to one substance, by its code: a year's mass and the peak rate.

@@ -1,12 +1,10 @@
 // Exact sums of emissions, and what every source rule answers in.
 #![tactic(auto)]
 
-pub mod annual;
 pub mod answer;
 pub mod mixed;
-pub mod peak;
+pub mod sum;
 pub mod words;
 
-pub use annual::AnnualSum;
-pub use answer::{Emission, Verdict};
-pub use peak::PeakSum;
+pub use answer::{Emission, Reason, Refusal};
+pub use sum::{Annual, AnnualSum, Peak, PeakSum, Sum, Unit};

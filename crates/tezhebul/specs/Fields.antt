@@ -1,6 +1,8 @@
 -- The sources that the rules are asked about, from the numbers that a caller hands over.
 use Rattle.std.specs.Prelude.{ℕ, ◌+◌, ◌*◌, ◌/◌, ◌%◌, Bool, List, [], ◌∷◌, leb, eqb, ℤ, get_or, length}
 use Rattle.sums.specs.Choice.{if_then_else, all_of, list_to}
+use Rattle.sums.specs.Answer.{refused_by}
+use Rattle.sums.specs.declared.answer.Reason.TheVariants.{OutOfRange}
 use Rattle.store_records.specs.declared.records.Bulk.{Bulk}
 use Rattle.store_records.specs.declared.records.Handling.{Handling}
 use Rattle.store_records.specs.declared.records.Standing.{Standing}
@@ -9,8 +11,7 @@ use Rattle.vehicle_fields.specs.Fields.{pollutant_count}
 use Rattle.vehicle_fields.specs.declared.group.Distances.{Distances}
 use Rattle.vehicle_fields.specs.declared.group.Group.{Group}
 use Rattle.vehicle_fields.specs.declared.group.Coefficients.{Coefficients}
-use Rattle.vehicles.specs.Rules.{group_refusal}
-use Rattle.vehicles.specs.declared.rule.GroupAnswer.{GroupAnswer}
+use Rattle.vehicles.specs.Rules.{GroupAnswer}
 use Rattle.locomotive_fields.specs.declared.fields.Locomotive.{Locomotive}
 
 abbrev pub bulk_of : ℕ → ℕ → ℕ → ℕ → ℕ → ℕ → ℕ → ℕ → Bulk
@@ -94,7 +95,7 @@ group_of category fuel flags vehicles leaving share running warming idle timed d
 
 -- "the others zero": flags of which another bit is set are out of range
 unfoldable pub flagged : ℕ → GroupAnswer → GroupAnswer
-flagged flags a = if_then_else (leb flags 3) a (group_refusal 9)
+flagged flags a = if_then_else (leb flags 3) a (refused_by OutOfRange)
 
 -- a locomotive; "five 16-bit time shares ... idle to full power"
 abbrev pub locomotive_of : ℕ → ℕ → ℕ → ℕ → ℕ → ℕ → ℕ → ℕ → ℕ → Locomotive

@@ -1,5 +1,5 @@
 // The fields of sources from the numbers that a caller hands over.
-ghost use Rattle.std.specs.Prelude.{◌≡◌, ◌+◌, ◌*◌, ◌≤◌, length};
+ghost use Rattle.std.specs.Prelude.{◌≡◌, ◌+◌, ◌*◌, ◌<◌, ◌≤◌, IfSome, is_some};
 ghost use Rattle.vehicle_fields.specs.Fields.{pollutant_count};
 ghost use Rattle.tezhebul.specs.Fields.{bulk_of, lengths, distances_at, group_of, coefficients_at, row_size, rows_of};
 
@@ -36,41 +36,42 @@ pub(crate) fn bulk_of(
 // The numbers of a pollutant's row, and of all rows.
 const ROW: usize = 7;
 
-const COEFFICIENTS: usize = ROW * POLLUTANTS;
+pub(crate) const COEFFICIENTS: usize = ROW * POLLUTANTS;
 
-// Whether each slice is as long as it has to be.
-pub(crate) fn right_lengths(
-    distances: &[u32],
-    days: &[u8],
-    temperatures: &[i16],
-    coefficients: &[u32],
-) -> bool
-    ensures { result ≡ lengths distances.now days.now temperatures.now coefficients.now }
+// Each slice as an array, where each is as long as it has to be.
+#[tactic(auto, unfolding(crate::specs::Fields::lengths))]
+pub(crate) fn arrays_of<'a>(
+    distances: &'a [u32],
+    days: &'a [u8],
+    temperatures: &'a [i16],
+    coefficients: &'a [u32],
+) -> Option<
+    (
+        &'a [u32; 4],
+        &'a [u8; 12],
+        &'a [i16; 12],
+        &'a [u32; COEFFICIENTS],
+    ),
+>
+    ensures lengths { is_some result ≡ lengths distances.now days.now temperatures.now coefficients.now }
+    ensures arrays { IfSome result (λ r. (r.0.now ≡ distances.now) × (r.1.now ≡ days.now) × (r.2.now ≡ temperatures.now) × (r.3.now ≡ coefficients.now)) }
 {
-    (distances.len() == 4)
-        & (days.len() == 12)
-        & (temperatures.len() == 12)
-        & (coefficients.len() == COEFFICIENTS)
+    Some((
+        distances.as_array()?,
+        days.as_array()?,
+        temperatures.as_array()?,
+        coefficients.as_array()?,
+    ))
 }
 
-fn distances_at(distances: &[u32], at: usize) -> Distances
-    requires { at + 2 ≤ length distances.now }
+fn distances_at(distances: &[u32; 4], at: usize) -> Distances
+    requires { at + 2 ≤ 4 }
     ensures { result ≡ distances_at distances.now at }
 {
     Distances {
         nearest: Metres(distances[at]),
         farthest: Metres(distances[at + 1]),
     }
-}
-
-fn days_of(days: &[u8]) -> [u8; 12]
-    requires { length days.now ≡ 12 }
-    ensures { result ≡ days.now }
-{
-    [
-        days[0], days[1], days[2], days[3], days[4], days[5], days[6], days[7], days[8], days[9],
-        days[10], days[11],
-    ]
 }
 
 pub(crate) fn group_of(
@@ -84,10 +85,9 @@ pub(crate) fn group_of(
     warming: u8,
     idle: u32,
     timed: u32,
-    distances: &[u32],
-    days: &[u8],
+    distances: &[u32; 4],
+    days: &[u8; 12],
 ) -> Group
-    requires { (length distances.now ≡ 4) × (length days.now ≡ 12) }
     ensures { result ≡ group_of category fuel flags vehicles leaving share running warming idle timed distances.now days.now }
 {
     Group {
@@ -102,50 +102,35 @@ pub(crate) fn group_of(
         idle: Minutes(idle),
         outward: distances_at(distances, 0),
         inward: distances_at(distances, 2),
-        days: days_of(days),
+        days: *days,
         timed: Minutes(timed),
     }
 }
 
-pub(crate) fn temperatures_of(temperatures: &[i16]) -> [i16; 12]
-    requires { length temperatures.now ≡ 12 }
-    ensures { result ≡ temperatures.now }
-{
-    let mut ts = [0; 12];
-    let mut m = 0;
-    while m < 12 {
-        ts[m] = temperatures[m];
-        m += 1;
-    }
-    ts
-}
-
 // The row at a place from 0.
-fn row_at(numbers: &[u32], place: usize) -> Coefficients
-    requires { row_size * place + row_size ≤ length numbers.now }
+fn row_at(numbers: &[u32; COEFFICIENTS], place: usize) -> Coefficients
+    requires { place < pollutant_count }
     ensures { result ≡ coefficients_at numbers.now (row_size * place) }
 {
     let at = ROW * place;
-    let warmup = [
-        PerMinute(numbers[at]),
-        PerMinute(numbers[at + 1]),
-        PerMinute(numbers[at + 2]),
-    ];
-    let run = [
-        PerKilometre(numbers[at + 3]),
-        PerKilometre(numbers[at + 4]),
-        PerKilometre(numbers[at + 5]),
-    ];
     Coefficients {
-        warmup,
-        run,
+        warmup: [
+            PerMinute(numbers[at]),
+            PerMinute(numbers[at + 1]),
+            PerMinute(numbers[at + 2]),
+        ],
+        run: [
+            PerKilometre(numbers[at + 3]),
+            PerKilometre(numbers[at + 4]),
+            PerKilometre(numbers[at + 5]),
+        ],
         idle: PerMinute(numbers[at + 6]),
     }
 }
 
-// The rows of the pollutants.
-pub(crate) fn rows_of(coefficients: &[u32]) -> [Coefficients; POLLUTANTS]
-    requires { length coefficients.now ≡ row_size * pollutant_count }
+// The rows of the pollutants. Written out: what `array::from_fn` promises of its calls did not prove the list of them.
+#[tactic(auto, unfolding(crate::specs::Fields::rows_of, sums::specs::Choice::list_to))]
+pub(crate) fn rows_of(coefficients: &[u32; COEFFICIENTS]) -> [Coefficients; POLLUTANTS]
     ensures { result ≡ rows_of coefficients.now }
 {
     [

@@ -10,8 +10,13 @@ ghost use Rattle.tezhebul.specs.Memory.{ListingGiven};
 pub fn tezhebul_check(file: &[u8]) -> u32
     ensures { result ≡ packed (told (outcome file.now)) }
 {
-    let v = walk::check(file);
-    65_536 * (v.number as u32) + v.slot as u32
+    match walk::check(file) {
+        Ok(()) => 0,
+        Err(r) => {
+            let number = u32::from(u8::from(r.reason));
+            65_536 * number + u32::from(r.slot)
+        }
+    }
 }
 
 // The numbers of a file's answer at the start of `out`; false, and nothing written, where it has room for fewer.
@@ -21,13 +26,19 @@ pub fn tezhebul_answer(file: &[u8], out: &mut [u64]) -> bool
     answer_numbers::give_answer(walk::answer(file), out)
 }
 
-// The listing at the start of the buffer, and its length; and in `out`, where there is room for them, the numbers of what the listing answers: those of the file, or
-// of refusal 13.
+// The listing at the start of the buffer, and its length, or 0 where it is refused; and in `out`, where there is room for them, the numbers of what the listing answers:
+// those of the file, or of a refusal.
 pub fn tezhebul_list(file: &[u8], buffer: &mut [u8], out: &mut [u64]) -> usize
     ensures { ListingGiven (listed (answer file.now) buffer.old) result buffer.new out.old out.new }
 {
-    let listing = listing::list(file, buffer);
-    let a = listing.answer;
-    answer_numbers::give_answer(a, out);
-    listing.written
+    match listing::list(file, buffer) {
+        Ok(listing) => {
+            answer_numbers::give_answer(Ok(listing.answer), out);
+            listing.written
+        }
+        Err(r) => {
+            answer_numbers::give_answer(Err(r), out);
+            0
+        }
+    }
 }

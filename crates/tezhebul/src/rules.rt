@@ -1,18 +1,19 @@
 // The source rules, asked with values and without a slot file.
-ghost use Rattle.std.specs.Prelude.{◌≡◌, ◌*◌, length};
-ghost use Rattle.vehicle_fields.specs.Fields.{pollutant_count};
+ghost use Rattle.std.specs.Prelude.{◌≡◌};
 ghost use Rattle.stores.specs.Rules.{handling_answer, standing_answer, aspiration_answer};
 ghost use Rattle.vehicles.specs.Rules.{group_answer};
 ghost use Rattle.locomotives.specs.Rules.{locomotive_answer};
 ghost use Rattle.answer_numbers.specs.Numbers.{store_numbers, store_size, locomotive_numbers, locomotive_size, Given};
-ghost use Rattle.tezhebul.specs.Fields.{handling_of, standing_of, aspiration_of, group_of, row_size, rows_of, flagged, locomotive_of};
+ghost use Rattle.tezhebul.specs.Fields.{handling_of, standing_of, aspiration_of, group_of, rows_of, flagged, locomotive_of};
 ghost use Rattle.tezhebul.specs.Memory.{GroupGiven};
 
 use super::fields;
+use super::fields::COEFFICIENTS;
 use locomotive_fields::Locomotive;
 use store_records::{Aspiration, Handling, Standing};
+use sums::{Emission, Reason, Refusal};
 use vehicle_fields::Group;
-use vehicles::GroupAnswer;
+use vehicles::EMISSIONS;
 
 // The numbers of what a handling record gives at the start of `out`; false, and nothing written, where it has room for fewer.
 pub fn tezhebul_handling(
@@ -82,16 +83,18 @@ pub fn tezhebul_aspiration(
 }
 
 #[tactic(auto, unfolding(crate::specs::Fields::flagged, sums::specs::Choice::if_then_else))]
-fn group_answer(flags: u8, g: Group, temperatures: &[i16], coefficients: &[u32]) -> GroupAnswer
-    requires { (length temperatures.now ≡ 12) × (length coefficients.now ≡ row_size * pollutant_count) }
+fn group_answer(
+    flags: u8,
+    g: Group,
+    temperatures: &[i16; 12],
+    coefficients: &[u32; COEFFICIENTS],
+) -> Result<[Emission; EMISSIONS], Refusal>
     ensures { result ≡ flagged flags (group_answer g temperatures.now (rows_of coefficients.now)) }
 {
-    let ts = fields::temperatures_of(temperatures);
-    let ks = fields::rows_of(coefficients);
     if flags <= 3 {
-        vehicles::group_emissions(g, ts, ks)
+        vehicles::group_emissions(g, *temperatures, fields::rows_of(coefficients))
     } else {
-        GroupAnswer::refusal(9)
+        Err(Refusal::of_source(Reason::OutOfRange))
     }
 }
 
@@ -115,14 +118,15 @@ pub fn tezhebul_group(
 ) -> bool
     ensures { GroupGiven flags (group_of category fuel flags vehicles leaving share running warming idle timed) distances.now days.now temperatures.now coefficients.now out.old result out.new }
 {
-    if fields::right_lengths(distances, days, temperatures, coefficients) {
-        let g = fields::group_of(
-            category, fuel, flags, vehicles, leaving, share, running, warming, idle, timed,
-            distances, days,
-        );
-        answer_numbers::give_group(group_answer(flags, g, temperatures, coefficients), out)
-    } else {
-        false
+    match fields::arrays_of(distances, days, temperatures, coefficients) {
+        Some((distances, days, temperatures, coefficients)) => {
+            let g = fields::group_of(
+                category, fuel, flags, vehicles, leaving, share, running, warming, idle, timed,
+                distances, days,
+            );
+            answer_numbers::give_group(group_answer(flags, g, temperatures, coefficients), out)
+        }
+        None => false,
     }
 }
 

@@ -2,7 +2,7 @@
 -- each source"; that a file's sums are those of slot_file's Figures is proved where a file is walked (`FileFigures` in walk).
 use Rattle.std.specs.Prelude.{ℕ, zero, suc, ◌+◌, ◌*◌, ◌%◌, ◌^◌, ◌<◌, ◌≡◌, List, ltb, eqb, get_or, set, length, replicate}
 use Rattle.sums.specs.Choice.{if_then_else, list_to}
-use Rattle.sums.specs.Figures.{units_in, words_of, annual_rounded, peak_rounded}
+use Rattle.sums.specs.Figures.{units_in, words_of, sum_in, annual_rounded, peak_rounded}
 use Rattle.sums.specs.Answer.{Contribution, no_emission}
 use Rattle.sums.specs.declared.words.Words.{Words}
 use Rattle.sums.specs.declared.answer.Emission.{Emission}
@@ -56,10 +56,10 @@ plus_to_in l es (suc n) = plus_in (plus_to_in l es n) (get_or es n no_emission)
 
 -- the figures of the code at place p, of which each has 64 bits
 abbrev pub annual_in : List ℕ → ℕ → ℕ
-annual_in l p = annual_rounded (record { 0 = words_at l (sum_place 0 p) }) % 2 ^ 64
+annual_in l p = annual_rounded (sum_in (words_at l (sum_place 0 p))) % 2 ^ 64
 
 abbrev pub peak_in : List ℕ → ℕ → ℕ
-peak_in l p = peak_rounded (record { 0 = words_at l (sum_place 1 p) }) % 2 ^ 64
+peak_in l p = peak_rounded (sum_in (words_at l (sum_place 1 p))) % 2 ^ 64
 
 unfoldable pub figures_of : List ℕ → Figures
 figures_of l = record { annual = list_to code_count (annual_in l); peak = list_to code_count (peak_in l) }

@@ -4,14 +4,12 @@
 
 ghost use Rattle.std.specs.Prelude.{◌≡◌, ◌<◌, length};
 ghost use Rattle.sums.specs.Figures.{units_in};
-ghost use Rattle.vehicles.specs.Rules.{emission_count};
 ghost use Rattle.slot_file.specs.Codes.{code_count};
 ghost use Rattle.totals.specs.Totals.{column_count, number_count, sum_place, no_numbers, words_at, plus_at, plus_in, plus_to_in, figures_of, figures_in};
 
 use slot_file::COUNT;
 use sums::words::Words;
 use sums::{AnnualSum, Emission, PeakSum};
-use vehicles::EMISSIONS;
 
 // The columns.
 const ANNUAL: usize = 0;
@@ -77,14 +75,12 @@ pub fn add(totals: &mut [u64], e: Emission)
     }
 }
 
-// The emissions of a group.
-pub fn add_all(totals: &mut [u64], emissions: [Emission; EMISSIONS])
-    ensures { totals.new ≡ plus_to_in totals.old emissions emission_count }
+// The emissions of a source.
+pub fn add_all<const N: usize>(totals: &mut [u64], emissions: [Emission; N])
+    ensures { totals.new ≡ plus_to_in totals.old emissions.entry N }
 {
-    let mut i = 0;
-    while i < EMISSIONS {
-        add(totals, emissions[i]);
-        i += 1;
+    for e in emissions {
+        add(totals, e);
     }
 }
 
@@ -94,11 +90,9 @@ fn figures_of(totals: &[u64]) -> Figures
 {
     let mut annual = [0; COUNT];
     let mut peak = [0; COUNT];
-    let mut i = 0;
-    while i < COUNT {
-        annual[i] = AnnualSum(sum_at(totals, ANNUAL, i)).rounded();
-        peak[i] = PeakSum(sum_at(totals, PEAK, i)).rounded();
-        i += 1;
+    for i in 0..COUNT {
+        annual[i] = AnnualSum::from(sum_at(totals, ANNUAL, i)).rounded();
+        peak[i] = PeakSum::from(sum_at(totals, PEAK, i)).rounded();
     }
     Figures { annual, peak }
 }

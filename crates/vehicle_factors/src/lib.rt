@@ -29,6 +29,7 @@ const CAR: [u16; BANDS] = [30, 40, 100, 150, 150, 200, 200];
 
 const TRUCK: [u16; BANDS] = [40, 60, 120, 200, 250, 300, 300];
 
+#[tactic(auto, unfolding(crate::specs::Factors::standard_factors, sums::specs::Fraction::parts_of))]
 pub fn standard_factors() -> Factors
     ensures { result ≡ standard_factors }
 {

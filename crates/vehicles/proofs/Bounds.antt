@@ -1,6 +1,6 @@
 -- No group in range gives a code more than a full file's sums allow, so those are exact, and its answer has exactly the rule's tonnes and grams. A
 -- formula's bound is written as the formula is. Assumes nothing.
-use Rattle.std.proofs.Common.{ℕ, ◌+◌, ◌*◌, ◌<◌, ◌≤◌, le_refl, add-le-add, arith, ◌≡◌, sym, ◌∙◌, true, List, lit<, ℤ, get_or}
+use Rattle.std.proofs.Common.{ℕ, ◌+◌, ◌*◌, ◌<◌, ◌≤◌, le_refl, add-le-add, arith, ◌≡◌, sym, ◌∙◌, true, List, lit<, ℤ, get_or, Ok}
 use Rattle.sums.specs.Choice.{if_then_else}
 use Rattle.sums.specs.Answer.{emitted, no_emission}
 use Rattle.sums.proofs.Choices.{right, list_to_at}
@@ -16,9 +16,9 @@ use Rattle.vehicle_factors.specs.Factors.{standard_factors, factors_in_range}
 use Rattle.vehicle_factors.specs.declared.Factors.{Factors}
 use Rattle.vehicle_factors.proofs.Standard.{standard_in_range}
 use Rattle.warmups.specs.Warmup.{times_of}
-use Rattle.warmups.specs.Parts.{climate_of, conditions_in, ConditionsInRange}
+use Rattle.warmups.specs.Parts.{climate_of, number_of, conditions_in, ConditionsInRange}
 use Rattle.warmups.specs.declared.warmup.Conditions.{Conditions}
-use Rattle.warmups.proofs.Decided.{times_in_range, conditions_in_range}
+use Rattle.warmups.proofs.Decided.{number_below, times_in_range, conditions_in_range}
 use Rattle.vehicles.specs.Rules.{percent_of, contribution_by, contribution_of, emission_of, emission_count, emissions_of, group_answer}
 use Rattle.vehicles.specs.Parts.{activity_of, ActivityInRange, NeutraliserInRange, mass_parts, out_parts, year_parts}
 use Rattle.vehicles.specs.declared.activity.Activity.{Activity}
@@ -37,7 +37,7 @@ module _ (g : Group) (k : Coefficients) (c : ℕ) (hg : group_in_range g ≡ tru
   unfolding out_parts
   out_most w h =
       let r = ranged g hg in
-      mass_most r.neutraliser hc (warmup k hk w.period h.period ⊗ h.minutes) (run k hk w.period h.period ⊗ twice g.outward r.outward) (idle k hk ⊗ r.idle)
+      mass_most r.neutraliser hc (warmup k hk (number_of w.period) (number_below w.period) ⊗ h.minutes) (run k hk (number_of w.period) (number_below w.period) ⊗ twice g.outward r.outward) (idle k hk ⊗ r.idle)
 
   pub year_most : (a : Activity) → ActivityInRange a → year_parts g k c a ≤ 8928000000000000
   unfolding year_parts
@@ -62,9 +62,12 @@ module _ (f : Factors) (hf : factors_in_range f ≡ true) (g : Group) (ts : List
 
 -- each emission of a group that is not refused, by the standard factors
 pub group_exactly : (g : Group) (ts : List ℤ) (ks : List Coefficients) → in_range g ts ks ≡ true → zero_where_due g ks ≡ true → (p : ℕ) → p < emission_count →
-    Exactly (get_or (group_answer g ts ks).emissions p no_emission) (contribution_of g ts (get_or ks p no_coefficients) p).tonnes (contribution_of g ts (get_or ks p no_coefficients) p).rate
+    (group_answer g ts ks ≡ Ok (emissions_of g ts ks))
+    × Exactly (get_or (emissions_of g ts ks) p no_emission) (contribution_of g ts (get_or ks p no_coefficients) p).tonnes (contribution_of g ts (get_or ks p no_coefficients) p).rate
 unfolding group_answer emissions_of emission_of if_then_else
 group_exactly g ts ks h b p q =
-    let r = source_in_range_lem g ks (right (temperatures_in_range ts) (source_in_range g ks) (sym (in_range_is g ts ks) ∙ h)) in
-    simp (h, b) (rw (list_to_at no_emission emission_count (λ (m : ℕ). emission_of g ts (get_or ks m no_coefficients) m) p q)
-    (emission_exactly standard_factors standard_in_range g ts (get_or ks p no_coefficients) r.0 (of_six ks r.1 p q) p))
+    let r = source_in_range_lem g ks (right (temperatures_in_range ts) (source_in_range g ks) (sym (in_range_is g ts ks) ∙ h)) in (
+      simp (h, b),
+      rw (list_to_at no_emission emission_count (λ (m : ℕ). emission_of g ts (get_or ks m no_coefficients) m) p q)
+          (emission_exactly standard_factors standard_in_range g ts (get_or ks p no_coefficients) r.0 (of_six ks r.1 p q) p),
+    )

@@ -18,7 +18,7 @@ use Rattle.vehicle_factors.specs.Factors.{standard_factors}
 use Rattle.vehicle_factors.specs.declared.Factors.{Factors}
 use Rattle.warmups.specs.Temperatures.{warmup_band, lowest_of}
 use Rattle.warmups.specs.Warmup.{times_of, tenths_in, period_at, minutes_at}
-use Rattle.warmups.specs.Parts.{climate_of, period_in, conditions_in}
+use Rattle.warmups.specs.Parts.{climate_of, number_of, period_in, conditions_in}
 use Rattle.warmups.specs.declared.warmup.Conditions.{Conditions}
 use Rattle.warmups.proofs.Decided.{period_same, band_at}
 use Rattle.vehicles.specs.Rules.{run_and_idle, out_grams, in_grams, month_grams, annual_tonnes, peak_grams, percent_of, control_of, contribution_by, emission_of, emission_count, emissions_of, group_answer}
@@ -28,7 +28,7 @@ use Rattle.vehicles.proofs.Periods.{by_months}
 
 -- a trip in, and a day's trips over the days of a month
 abbrev in_parts : Group → Coefficients → ℕ → Conditions → ℕ
-in_parts g k c w = run_and_idle_parts g.neutraliser c ((get_or k.run w.period no_kilometre).0 * (distance_sum g.inward).0) (k.idle.0 * g.idle.0)
+in_parts g k c w = run_and_idle_parts g.neutraliser c ((get_or k.run (number_of w.period) no_kilometre).0 * (distance_sum g.inward).0) (k.idle.0 * g.idle.0)
 
 abbrev days_parts : Group → Coefficients → ℕ → Conditions → ℕ → ℕ
 days_parts g k c w days = (out_parts g k c w + in_parts g k c w) * days
@@ -91,17 +91,17 @@ module _ (f : Factors) (g : Group) (k : Coefficients) (y : Frac) (c : ℕ) (same
   unfolding out_grams out_parts mass_parts conditions_in minutes_at
   out t =
       let b = warmup_band t in
-      let w = (get_or k.warmup (period_in g b) no_minute).0 in
+      let w = (get_or k.warmup (number_of (period_in g b)) no_minute).0 in
       let m = tenths_in (times_of f g.category) g b in
       rw (period_same g t)
       (≈_⊞
       (≈_over (2 * (w * m) * c * g.neutraliser.warming) 2000000000 (lit< tt) (omega arith)
       (≈_⊙ (≈_⊙ (≈_⊙ (≈_refl w 10000 (lit< tt)) (≈_refl m 10 (lit< tt))) same) (≈_refl g.neutraliser.warming 100 (lit< tt))))
-      (run_and_idle_lem (period_in g b) g.outward))
+      (run_and_idle_lem (number_of (period_in g b)) g.outward))
 
   back : (t : ℤ) → in_grams g k y (period_at g t) ≈ (in_parts g k c (conditions t) over 2000000000)
   unfolding in_grams conditions_in
-  back t = rw (period_same g t) (run_and_idle_lem (period_in g (warmup_band t)) g.inward)
+  back t = rw (period_same g t) (run_and_idle_lem (number_of (period_in g (warmup_band t))) g.inward)
 
   month : (t : ℤ) (days : ℕ) →
       month_grams g k y (period_at g t) (minutes_at f g t) days ≈ ((days_parts g k c (conditions t) days * (g.share * g.vehicles)) over 200000000000)

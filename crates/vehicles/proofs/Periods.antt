@@ -8,8 +8,8 @@ use Rattle.sums.proofs.Products.{◌⊗◌}
 use Rattle.vehicle_fields.specs.Fields.{group_in_range, coefficients_in_range}
 use Rattle.vehicle_fields.specs.declared.group.Group.{Group}
 use Rattle.vehicle_fields.specs.declared.group.Coefficients.{Coefficients}
-use Rattle.warmups.specs.Parts.{TimesInRange}
-use Rattle.warmups.proofs.Decided.{period_below, tenths_most}
+use Rattle.warmups.specs.Parts.{period_in, TimesInRange}
+use Rattle.warmups.proofs.Decided.{number_below, tenths_most}
 use Rattle.vehicles.specs.Parts.{in_period, day_run, month_period, month_warmup, month_run, month_idle, activity_of, warmup_parts, run_parts, ActivityInRange}
 use Rattle.vehicles.specs.declared.activity.Activity.{Activity}
 use Rattle.vehicles.proofs.Ranges.{ranged, twice, days, three, warmup, run, idle}
@@ -32,7 +32,7 @@ module _ (g : Group) (bs : List ℕ) (f : ℕ → ℕ) where
   by_months a (suc n) =
       let e = by_months a n in
       three (λ (q : ℕ). sum_to 3 (λ (p : ℕ). a p * (in_period g bs f n p + if_then_else (eqb p q) (f n) 0)) ≡ sum_to n (λ (m : ℕ). a (month_period g bs m) * f m) + a q * f n)
-      (omega arith) (omega arith) (omega arith) (month_period g bs n) (period_below g (get_or bs n 0))
+      (omega arith) (omega arith) (omega arith) (month_period g bs n) (number_below (period_in g (get_or bs n 0)))
 
   -- what bounds each month bounds a period, and the three together
   pub alone : (b n : ℕ) → ((m : ℕ) → m < n → f m ≤ b) → (p : ℕ) → in_period g bs f n p ≤ n * b

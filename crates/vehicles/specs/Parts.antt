@@ -1,9 +1,10 @@
 -- What inner functions compute: the rule's fractions as whole numbers of parts. The proofs show that they are the fractions of Rules.
-use Rattle.std.specs.Prelude.{ℕ, ◌+◌, ◌*◌, ◌/◌, ◌≤◌, List, eqb, get_or}
+use Rattle.std.specs.Prelude.{ℕ, ◌+◌, ◌*◌, ◌/◌, ◌≤◌, List, eqb, get_or, Ok}
 use Rattle.sums.specs.Choice.{if_then_else, sum_to, list_to}
 use Rattle.sums.specs.Figures.{tonne_parts, gram_parts, annual_of, peak_of}
 use Rattle.sums.specs.declared.answer.Emission.{Emission}
-use Rattle.sums.specs.Answer.{no_refusal}
+use Rattle.sums.specs.Answer.{refused_by}
+use Rattle.sums.specs.declared.answer.Reason.TheVariants.{OutOfRange, SootOrLead}
 use Rattle.vehicle_fields.specs.Fields.{no_minute, no_kilometre, no_coefficients, source_in_range}
 use Rattle.vehicle_fields.specs.SootAndLead.{zero_where_due}
 use Rattle.vehicle_factors.specs.Factors.{standard_factors}
@@ -15,11 +16,10 @@ use Rattle.vehicle_fields.specs.declared.group.Neutraliser.{Neutraliser}
 use Rattle.vehicle_fields.specs.declared.group.Group.{Group}
 use Rattle.vehicle_fields.specs.declared.group.Coefficients.{Coefficients}
 use Rattle.warmups.specs.Warmup.{times_of, tenths_in}
-use Rattle.warmups.specs.Parts.{tenths, period_in, conditions_in}
+use Rattle.warmups.specs.Parts.{tenths, number_of, period_in, conditions_in}
 use Rattle.warmups.specs.declared.climate.Climate.{Climate}
 use Rattle.warmups.specs.declared.warmup.Conditions.{Conditions}
-use Rattle.vehicles.specs.Rules.{percent_of, pollutant_code, emission_count, group_refusal}
-use Rattle.vehicles.specs.declared.rule.GroupAnswer.{GroupAnswer}
+use Rattle.vehicles.specs.Rules.{percent_of, pollutant_code, emission_count, GroupAnswer}
 use Rattle.vehicles.specs.declared.activity.Activity.{Activity}
 
 -- so many metres
@@ -38,7 +38,7 @@ day_idle g = tenths (2 * g.idle.0)
 
 -- in a month, by the times of the group's category and the months' bands: its period, and over its days worked the warm-up, the run and the idling
 abbrev pub month_period : Group → List ℕ → ℕ → ℕ
-month_period g bs m = period_in g (get_or bs m 0)
+month_period g bs m = number_of (period_in g (get_or bs m 0))
 
 abbrev pub month_warmup : List ℕ → Group → List ℕ → ℕ → ℕ
 month_warmup times g bs m = get_or g.days m 0 * tenths_in times g (get_or bs m 0)
@@ -70,8 +70,8 @@ mass_parts n control warmup run idle = 2 * warmup * control * n.warming + run_an
 
 unfoldable pub out_parts : Group → Coefficients → ℕ → Conditions → ℕ
 out_parts g k control w =
-    mass_parts g.neutraliser control ((get_or k.warmup w.period no_minute).0 * w.minutes.0)
-    ((get_or k.run w.period no_kilometre).0 * (distance_sum g.outward).0)
+    mass_parts g.neutraliser control ((get_or k.warmup (number_of w.period) no_minute).0 * w.minutes.0)
+    ((get_or k.run (number_of w.period) no_kilometre).0 * (distance_sum g.outward).0)
     (k.idle.0 * g.idle.0)
 
 -- over the three periods
@@ -109,8 +109,8 @@ emissions_in f g c ks =
 unfoldable pub answer_in : Group → Climate → List Coefficients → GroupAnswer
 answer_in g c ks =
     if_then_else (source_in_range g ks)
-    (if_then_else (zero_where_due g ks) (record { verdict = no_refusal; emissions = emissions_in standard_factors g c ks }) (group_refusal 11))
-    (group_refusal 9)
+    (if_then_else (zero_where_due g ks) (Ok (emissions_in standard_factors g c ks)) (refused_by SootOrLead))
+    (refused_by OutOfRange)
 
 -- how large they are at most: a year's minutes and metres over all three periods
 pub record NeutraliserInRange (n : Neutraliser) : Type 0 where

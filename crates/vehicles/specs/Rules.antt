@@ -1,9 +1,11 @@
 -- 01, "Vehicle rules", over the factors: control percents and warm-up times. A warm-up's minutes are a function of the temperature.
-use Rattle.std.specs.Prelude.{ℕ, ◌+◌, List, [], ◌∷◌, eqb, ℤ, pos, get_or, replicate}
+use Rattle.std.specs.Prelude.{ℕ, ◌+◌, List, [], ◌∷◌, eqb, ℤ, pos, get_or, Result, Ok}
 use Rattle.sums.specs.Choice.{if_then_else, list_to}
 use Rattle.sums.specs.Fraction.{Frac, ◌over◌, whole, ◌⊙◌, ◌⊞◌, ◌per◌, total_to}
-use Rattle.sums.specs.Answer.{Contribution, contribution, no_refusal, refused_by, emitted, no_emission}
+use Rattle.sums.specs.Answer.{Contribution, contribution, refused_by, emitted}
 use Rattle.sums.specs.declared.answer.Emission.{Emission}
+use Rattle.sums.specs.declared.answer.Reason.TheVariants.{OutOfRange, SootOrLead}
+use Rattle.sums.specs.declared.answer.Refusal.{Refusal}
 use Rattle.vehicle_fields.specs.Fields.{pollutant_count, no_minute, no_kilometre, no_coefficients, in_range}
 use Rattle.vehicle_fields.specs.SootAndLead.{zero_where_due}
 use Rattle.vehicle_factors.specs.Factors.{standard_factors}
@@ -13,7 +15,6 @@ use Rattle.vehicle_fields.specs.declared.group.Group.{Group}
 use Rattle.vehicle_fields.specs.declared.group.Coefficients.{Coefficients}
 use Rattle.warmups.specs.Temperatures.{lowest_of}
 use Rattle.warmups.specs.Warmup.{minutes_at, period_at}
-use Rattle.vehicles.specs.declared.rule.GroupAnswer.{GroupAnswer}
 
 -- "Control factor ... It is 1 without control": of the pollutant at place p, in percent, and as a fraction
 unfoldable pub percent_of : Factors → Group → ℕ → ℕ
@@ -88,12 +89,13 @@ emission_count = pollutant_count
 unfoldable pub emissions_of : Group → List ℤ → List Coefficients → List Emission
 emissions_of g ts ks = list_to emission_count (λ (p : ℕ). emission_of g ts (get_or ks p no_coefficients) p)
 
--- "then 11 for soot or lead that must be zero", "with zero figures and slot 0"; what is not refused is answered exactly (`Bounds.group_exactly`)
-abbrev pub group_refusal : ℕ → GroupAnswer
-group_refusal n = record { verdict = refused_by n; emissions = replicate emission_count no_emission }
+-- what the rule answers: what the group gives, or why it is refused
+abbrev pub GroupAnswer : Type 0
+GroupAnswer = Result (List Emission) Refusal
 
+-- "then 11 for soot or lead that must be zero", with "slot 0"; what is not refused is answered exactly (`Bounds.group_exactly`)
 unfoldable pub group_answer : Group → List ℤ → List Coefficients → GroupAnswer
 group_answer g ts ks =
     if_then_else (in_range g ts ks)
-    (if_then_else (zero_where_due g ks) (record { verdict = no_refusal; emissions = emissions_of g ts ks }) (group_refusal 11))
-    (group_refusal 9)
+    (if_then_else (zero_where_due g ks) (Ok (emissions_of g ts ks)) (refused_by SootOrLead))
+    (refused_by OutOfRange)

@@ -1,58 +1,98 @@
 // Units multiply only with their own: coefficients per minute with minutes, per kilometre with metres.
-ghost use Rattle.std.specs.Prelude.{◌≡◌, ◌+◌, ◌*◌, ◌<◌, ◌≤◌};
+ghost use Rattle.std.specs.Prelude.{◌≡◌, ℕ, ◌+◌, ◌*◌, ◌≤◌, get_or};
+ghost use Rattle.sums.specs.Choice.{sum_to};
 
 use vehicle_fields::{Metres, Minutes, PerKilometre, PerMinute};
 
-fn product(a: u32, b: u32) -> u64
-    ensures { result ≡ a * b }
-{
-    (a as u64) * (b as u64)
+// A unit of measure, and the coefficients that are given for it. `none` and `free` stand past the end of a list of them.
+pub(crate) trait Measure: Copy {
+    type Per: Copy;
+
+    ghost count: { Self → ℕ };
+
+    ghost rate: { Self.Per → ℕ };
+
+    ghost none: { Self };
+
+    ghost free: { Self.Per };
+
+    fn of(n: u32) -> Self
+        ensures { count result ≡ n };
+
+    fn count(self) -> u32
+        ensures { result ≡ count self };
+
+    fn rate(k: Self::Per) -> u32
+        ensures { result ≡ rate k };
+}
+
+impl Measure for Minutes {
+    type Per = PerMinute;
+
+    ghost count = { λ t. t.0 };
+
+    ghost rate = { λ k. k.0 };
+
+    ghost none = { record { 0 = 0 } };
+
+    ghost free = { record { 0 = 0 } };
+
+    fn of(n: u32) -> Self {
+        Minutes(n)
+    }
+
+    fn count(self) -> u32 {
+        self.0
+    }
+
+    fn rate(k: PerMinute) -> u32 {
+        k.0
+    }
+}
+
+impl Measure for Metres {
+    type Per = PerKilometre;
+
+    ghost count = { λ d. d.0 };
+
+    ghost rate = { λ k. k.0 };
+
+    ghost none = { record { 0 = 0 } };
+
+    ghost free = { record { 0 = 0 } };
+
+    fn of(n: u32) -> Self {
+        Metres(n)
+    }
+
+    fn count(self) -> u32 {
+        self.0
+    }
+
+    fn rate(k: PerKilometre) -> u32 {
+        k.0
+    }
 }
 
 // n times x more.
-fn more(total: u32, n: u8, x: u32) -> u32
-    requires { (total ≤ 1000000000) × (x ≤ 80000) }
-    ensures { result ≡ total + n * x }
+pub(crate) fn more<M: Measure>(total: M, n: u8, x: M) -> M
+    requires { (M.count total ≤ 1000000000) × (M.count x ≤ 80000) }
+    ensures { M.count result ≡ M.count total + n * M.count x }
 {
-    total + (n as u32) * x
+    M::of(total.count() + u32::from(n) * x.count())
 }
 
-// n times t more.
-pub(crate) fn more_minutes(total: Minutes, n: u8, t: Minutes) -> Minutes
-    requires { (total.0 ≤ 1000000000) × (t.0 ≤ 80000) }
-    ensures { result.0 ≡ total.0 + n * t.0 }
+pub(crate) fn times<M: Measure>(k: M::Per, x: M) -> u64
+    ensures { result ≡ M.rate k * M.count x }
 {
-    Minutes(more(total.0, n, t.0))
+    u64::from(M::rate(k)) * u64::from(x.count())
 }
 
-// n times d more.
-pub(crate) fn more_metres(total: Metres, n: u8, d: Metres) -> Metres
-    requires { (total.0 ≤ 1000000000) × (d.0 ≤ 80000) }
-    ensures { result.0 ≡ total.0 + n * d.0 }
+// Over the three periods, each with its coefficient.
+#[tactic(auto, unfolding(sums::specs::Choice::sum_to))]
+pub(crate) fn over_periods<M: Measure>(ks: [M::Per; 3], xs: [M; 3]) -> u64
+    requires { sum_to 3 (λ p. M.rate (get_or ks p M.free) * M.count (get_or xs p M.none)) ≤ 29760000000000 }
+    ensures { result ≡ sum_to 3 (λ p. M.rate (get_or ks p M.free) * M.count (get_or xs p M.none)) }
 {
-    Metres(more(total.0, n, d.0))
-}
-
-pub(crate) fn over_minutes(k: PerMinute, t: Minutes) -> u64
-    ensures { result ≡ k.0 * t.0 }
-{
-    product(k.0, t.0)
-}
-
-pub(crate) fn over_metres(k: PerKilometre, d: Metres) -> u64
-    ensures { result ≡ k.0 * d.0 }
-{
-    product(k.0, d.0)
-}
-
-pub(crate) fn wide8(x: u8) -> u64
-    ensures { (result ≡ x) × (result < 256) }
-{
-    x as u64
-}
-
-pub(crate) fn wide16(x: u16) -> u64
-    ensures { (result ≡ x) × (result < 65536) }
-{
-    x as u64
+    times(ks[0], xs[0]) + times(ks[1], xs[1]) + times(ks[2], xs[2])
 }

@@ -5,6 +5,8 @@ mod activity;
 mod arithmetic;
 mod control;
 pub mod rule;
+mod sound;
 mod trip;
+mod year;
 
-pub use rule::{EMISSIONS, GroupAnswer, emissions_in_climate, group_emissions};
+pub use rule::{EMISSIONS, emissions_in_climate, group_emissions};

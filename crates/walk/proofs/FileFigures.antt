@@ -4,7 +4,7 @@ use Rattle.std.proofs.Common.{ℕ, ◌+◌, ◌*◌, ◌%◌, ◌^◌, ◌<◌, 
 use mathlib.Core.List.{reverse_aux}
 use Rattle.sums.specs.Choice.{list_to}
 use Rattle.sums.specs.Fraction.{Frac, ◌over◌, whole, ◌⊙◌, ◌≈◌, parts_of}
-use Rattle.sums.specs.Figures.{annual_denominator, peak_denominator, units_in, words_of, nearest, annual_of, peak_of, annual_rounded, peak_rounded}
+use Rattle.sums.specs.Figures.{annual_denominator, peak_denominator, units_in, words_of, nearest, sum_in, annual_of, peak_of, annual_rounded, peak_rounded}
 use Rattle.sums.specs.Answer.{Contribution}
 use Rattle.sums.specs.declared.words.Words.{Words}
 use Rattle.sums.proofs.Choices.{yes, list_to_same}
@@ -91,7 +91,7 @@ module _ (s : List ℕ) (b : Chains) where
     file_figures l h =
         let xs = contributions (inventory_at s b) in
         let a = list_to_same code_count (annual_in l) (λ (p : ℕ). annual_figure xs (get_or codes p 0))
-        (λ p k. ap (λ (m : Words). annual_rounded (record { 0 = m }) % 2 ^ 64) (h.sums_are 0 p (lit< tt) k) ∙ annual_figured (get_or codes p 0)) in
+        (λ p k. ap (λ (m : Words). annual_rounded (sum_in m) % 2 ^ 64) (h.sums_are 0 p (lit< tt) k) ∙ annual_figured (get_or codes p 0)) in
         let p = list_to_same code_count (peak_in l) (λ (p : ℕ). peak_figure xs (get_or codes p 0))
-        (λ p k. ap (λ (m : Words). peak_rounded (record { 0 = m }) % 2 ^ 64) (h.sums_are 1 p (lit< tt) k) ∙ peak_figured (get_or codes p 0)) in
+        (λ p k. ap (λ (m : Words). peak_rounded (sum_in m) % 2 ^ 64) (h.sums_are 1 p (lit< tt) k) ∙ peak_figured (get_or codes p 0)) in
         sym (yes _ _ _ _ (eq-eqb _ _ h.room) refl) ∙ (λ i. record { annual = a i; peak = p i })

@@ -1,7 +1,7 @@
 -- The laws that belong to no one function.
+pub mod RowAsks
 pub mod GroupAsks
-pub mod Passing
-pub mod StoreAsks
 pub mod LocomotiveAsks
+pub mod Passing
 pub mod Bounded
 pub mod FileFigures

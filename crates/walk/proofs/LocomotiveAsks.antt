@@ -1,22 +1,33 @@
--- All that is asked of a link to a locomotive: of the link, by what its slot reads as, and question 14. Assumes nothing.
-use Rattle.std.proofs.Common.{ℕ, ◌≤◌, ◌≡◌, ap, ◌∙◌, Bool, false, ◌&&◌, List, ltb, lit<, get_or}
-use Rattle.sums.specs.declared.answer.Verdict.{Verdict}
+-- All that is asked of a link to a locomotive: of the link, and question 14. Assumes nothing.
+use Rattle.std.proofs.Common.{ℕ, List, [], ◌∷◌}
+use Rattle.sums.specs.declared.answer.Reason.TheVariants.{Shares}
+use Rattle.sums.specs.declared.answer.Refusal.{Refusal}
 use Rattle.locomotive_fields.specs.Fields.{shares_add_up}
 use Rattle.slots.specs.Bytes.{slot_of}
-use Rattle.slots.specs.Layout.{locomotive_of, locomotive_kind, locomotive_good, locomotive_read}
-use Rattle.slots.specs.declared.locomotive.LocomotiveRead.{LocomotiveRead}
+use Rattle.slots.specs.Layout.{locomotive_of, locomotive_kind, locomotive_good}
 use Rattle.slot_file.specs.Sources.{locomotive_at, Chains}
-use Rattle.slot_file.specs.Questions.{most_slots, question, slot_count, last_of, sources_of, locomotive_asks}
-use Rattle.slot_file.specs.Parts.{marks_of}
-use Rattle.questions.specs.Told.{told_by, asked, Told, link_asked}
-use Rattle.questions.proofs.Telling.{told_ask, link_told}
+use Rattle.slot_file.specs.Questions.{Question, question, last_of, sources_of, link_asks, locomotive_asks}
+use Rattle.slot_file.specs.Meaning.{AllYes, FirstNo}
+use Rattle.slot_file.proofs.Asking.{all_append, no_before, no_after}
 
-pub locomotive_told : (s : List ℕ) (c : Chains) (sources : List Bool) (known : Bool) (holder k : ℕ) (read : LocomotiveRead) (linked : Verdict) {v : Verdict} (up : Bool)
-    → linked ≡ told_by (link_asked s known holder k read.number) → slot_count s ≤ most_slots → read ≡ locomotive_read (slot_of s k) → (k ≡ 0 → ⊥) → known ≡ (ltb k (slot_count s) && get_or sources k false) → up ≡ shares_add_up read.locomotive
-    → v ≡ asked linked (question up 14 k)
-    → sources ≡ marks_of (sources_of c) → holder ≡ last_of c.locomotives → Told (locomotive_asks s c k) v
-unfolding locomotive_asks locomotive_at locomotive_read
-locomotive_told s c sources known holder k read linked up t l e z w u d m h =
-    let x = slot_of s k in
-    rw (← h) (told_ask linked _ _ 14 k (lit< tt) (link_told s (sources_of c) sources known holder k read.number (locomotive_kind x) (locomotive_good x (locomotive_of x)) l w m z (ap (λ (r : LocomotiveRead). r.number) e) t)
-    (λ y. u ∙ ap (λ (r : LocomotiveRead). shares_add_up r.locomotive) e) d)
+module _ (s : List ℕ) (c : Chains) (k : ℕ) where
+  abbrev pub locomotive_link_asks : List Question
+  locomotive_link_asks =
+      let t = slot_of s k in
+      link_asks s (last_of c.locomotives) (sources_of c) k (locomotive_kind t) (locomotive_good t (locomotive_of t))
+
+  abbrev pub fourteen : List Question
+  fourteen = question (shares_add_up (locomotive_at s k)) Shares k ∷ []
+
+  module _ {e : Refusal} where
+    pub no_locomotive_link : FirstNo locomotive_link_asks e → FirstNo (locomotive_asks s c k) e
+    unfolding locomotive_asks
+    no_locomotive_link = no_before locomotive_link_asks fourteen
+
+    pub no_fourteen : AllYes locomotive_link_asks → FirstNo fourteen e → FirstNo (locomotive_asks s c k) e
+    unfolding locomotive_asks
+    no_fourteen = no_after locomotive_link_asks fourteen
+
+  pub all_locomotive : AllYes locomotive_link_asks → AllYes fourteen → AllYes (locomotive_asks s c k)
+  unfolding locomotive_asks
+  all_locomotive = all_append locomotive_link_asks fourteen

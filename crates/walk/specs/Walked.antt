@@ -1,6 +1,7 @@
 -- What a walk along a chain answers, and what holds after each of its steps.
-use Rattle.std.specs.Prelude.{ℕ, ◌+◌, ◌≡◌, Bool, true, List, [], length}
+use Rattle.std.specs.Prelude.{ℕ, ◌+◌, ◌≡◌, Bool, true, List, [], length, Result, MatchResult}
 use Rattle.sums.specs.Answer.{Contribution}
+use Rattle.sums.specs.declared.answer.Refusal.{Refusal}
 use Rattle.slots.specs.declared.header.Header.{Header}
 use Rattle.slot_file.specs.Sources.{group_at, store_at, locomotive_at, header_at, temperatures_at, Chains}
 use Rattle.slot_file.specs.Questions.{head_asks, last_of, sources_of, reached_of, groups_so_far, stores_so_far, locomotives_so_far}
@@ -10,7 +11,6 @@ use Rattle.slot_file.specs.Alike.{total}
 use Rattle.slot_file.specs.Parts.{marks_of}
 use Rattle.totals.specs.Totals.{number_count, no_numbers, column, Sums}
 use Rattle.slot_file.specs.declared.Counts.{Counts}
-use Rattle.walk.specs.declared.walked.Walked.{Walked}
 
 -- the units that the sources on the chains have together
 abbrev pub units_of : (Contribution → ℕ) → List ℕ → Chains → ℕ
@@ -32,9 +32,8 @@ pub record Holds (s : List ℕ) (summing : Bool) (sources reached : List Bool) (
   pub sums_are : summing ≡ true → Sums (sums_of s c) totals
 
 -- what a walk along a chain answers: a refusal, or that the chain ended with its counts
-pub record ChainWalked (s : List ℕ) (Ended : Counts → Type 0) (r : Walked) : Type 0 where
-  pub refuses : (r.verdict.number ≡ 0 → ⊥) → Refuses s r.verdict.number r.verdict.slot
-  pub ended : r.verdict.number ≡ 0 → Ended r.counts
+abbrev pub ChainWalked : List ℕ → (Counts → Type 0) → Result Counts Refusal → Type 0
+ChainWalked s Ended r = MatchResult r Ended (Refuses s)
 
 -- a chain that is passed up to a zero link
 pub record Ended (Passed : ℕ → ℕ → Counts → Type 0) (counts : Counts) : Type 0 where
@@ -60,14 +59,14 @@ pub record GroupsPassed (s : List ℕ) (summing : Bool) (sources reached : List 
 abbrev pub GroupsEnded : List ℕ → Bool → List Bool → List Bool → List ℕ → Counts → Type 0
 GroupsEnded s summing sources reached totals = Ended (GroupsPassed s summing sources reached totals)
 
-abbrev pub GroupsWalked : List ℕ → Bool → List Bool → List Bool → List ℕ → Walked → Type 0
+abbrev pub GroupsWalked : List ℕ → Bool → List Bool → List Bool → List ℕ → Result Counts Refusal → Type 0
 GroupsWalked s summing sources reached totals r = ChainWalked s (GroupsEnded s summing sources reached totals) r
 
 -- where the store chain begins: the group chain has ended
-pub record StoresBegin (s : List ℕ) (summing : Bool) (sources reached : List Bool) (totals : List ℕ) (h : Header) (start : Walked) : Type 0 where
+pub record StoresBegin (s : List ℕ) (summing : Bool) (sources reached : List Bool) (totals : List ℕ) (h : Header) (start : Counts) : Type 0 where
   pub head : AllYes (head_asks s)
   pub header : h ≡ header_at s
-  pub groups : GroupsEnded s summing sources reached totals start.counts
+  pub groups : GroupsEnded s summing sources reached totals start
 
 -- the groups and the store records of c are passed, and the store chain goes on at the link
 pub record StoresPassed (s : List ℕ) (summing : Bool) (sources reached : List Bool) (totals : List ℕ) (holder link : ℕ) (counts : Counts) : Type 0 where
@@ -81,14 +80,14 @@ pub record StoresPassed (s : List ℕ) (summing : Bool) (sources reached : List 
 abbrev pub StoresEnded : List ℕ → Bool → List Bool → List Bool → List ℕ → Counts → Type 0
 StoresEnded s summing sources reached totals = Ended (StoresPassed s summing sources reached totals)
 
-abbrev pub StoresWalked : List ℕ → Bool → List Bool → List Bool → List ℕ → Walked → Type 0
+abbrev pub StoresWalked : List ℕ → Bool → List Bool → List Bool → List ℕ → Result Counts Refusal → Type 0
 StoresWalked s summing sources reached totals r = ChainWalked s (StoresEnded s summing sources reached totals) r
 
 -- where the locomotive chain begins: the store chain has ended
-pub record LocomotivesBegin (s : List ℕ) (summing : Bool) (sources reached : List Bool) (totals : List ℕ) (h : Header) (start : Walked) : Type 0 where
+pub record LocomotivesBegin (s : List ℕ) (summing : Bool) (sources reached : List Bool) (totals : List ℕ) (h : Header) (start : Counts) : Type 0 where
   pub head : AllYes (head_asks s)
   pub header : h ≡ header_at s
-  pub stores : StoresEnded s summing sources reached totals start.counts
+  pub stores : StoresEnded s summing sources reached totals start
 
 -- the groups, the store records and the locomotives of c are passed, and the locomotive chain goes on at the link
 pub record LocomotivesPassed (s : List ℕ) (summing : Bool) (sources reached : List Bool) (totals : List ℕ) (holder link : ℕ) (counts : Counts) : Type 0 where
@@ -103,17 +102,16 @@ pub record LocomotivesPassed (s : List ℕ) (summing : Bool) (sources reached : 
 abbrev pub LocomotivesEnded : List ℕ → Bool → List Bool → List Bool → List ℕ → Counts → Type 0
 LocomotivesEnded s summing sources reached totals = Ended (LocomotivesPassed s summing sources reached totals)
 
-abbrev pub LocomotivesWalked : List ℕ → Bool → List Bool → List Bool → List ℕ → Walked → Type 0
+abbrev pub LocomotivesWalked : List ℕ → Bool → List Bool → List Bool → List ℕ → Result Counts Refusal → Type 0
 LocomotivesWalked s summing sources reached totals r = ChainWalked s (LocomotivesEnded s summing sources reached totals) r
 
 -- a file that nothing is refused of
-pub record FileAccepted (s : List ℕ) (summing : Bool) (totals : List ℕ) (r : Walked) : Type 0 where
+pub record FileAccepted (s : List ℕ) (summing : Bool) (totals : List ℕ) (counts : Counts) : Type 0 where
   pub c : Chains
   pub accepts : Accepts s c
   pub sources : List Bool
   pub reached : List Bool
-  pub holds : Holds s summing sources reached totals r.counts c
+  pub holds : Holds s summing sources reached totals counts c
 
-pub record FileWalked (s : List ℕ) (summing : Bool) (totals : List ℕ) (r : Walked) : Type 0 where
-  pub refuses : (r.verdict.number ≡ 0 → ⊥) → Refuses s r.verdict.number r.verdict.slot
-  pub passes : r.verdict.number ≡ 0 → FileAccepted s summing totals r
+abbrev pub FileWalked : List ℕ → Bool → List ℕ → Result Counts Refusal → Type 0
+FileWalked s summing totals r = MatchResult r (FileAccepted s summing totals) (Refuses s)

@@ -5,18 +5,16 @@ ghost use Rattle.slot_file.specs.Questions.{most_bytes};
 ghost use Rattle.walk.specs.Steps.{GroupStepped};
 ghost use Rattle.walk.specs.Walked.{GroupsBegin, GroupsWalked};
 
-use super::walked::Walked;
 use super::{marks, rows, walked};
-use slot_file::MOST_SLOTS;
+use slot_file::{Counts, MOST_SLOTS};
 use slots::Header;
 use source_sums::GroupSource;
-use sums::Verdict;
+use sums::{Reason, Refusal};
 use warmups::Climate;
 
-// What a link to a group was told, the group with its coefficients, and the next link.
+// The group with its coefficients, and the next link.
 #[derive(Clone, Copy)]
 pub(crate) struct GroupStep {
-    pub(crate) verdict: Verdict,
     pub(crate) source: GroupSource,
     pub(crate) next: u16,
 }
@@ -28,39 +26,26 @@ fn step_group(
     reached: &mut [bool; MOST_SLOTS],
     holder: u16,
     link: u16,
-) -> GroupStep
+) -> Result<GroupStep, Refusal>
     requires { (length file.now ≤ most_bytes) × (link ≡ 0 → ⊥) }
     ensures { GroupStepped file.now holder link sources.old sources.new reached.old reached.new result }
 {
     let k = link as usize;
-    let read = slots::read_group(file, k);
-    let group = read.group;
     let known = marks::marked(file, sources, k);
-    let verdict = questions::ask_link(file, known, holder, link, read.number);
-    if verdict.number != 0 {
-        return GroupStep {
-            verdict,
-            source: GroupSource {
-                group,
-                coefficients: rows::no_rows(),
-            },
-            next: read.next,
-        };
-    }
+    questions::ask_link(file, known, holder, link)?;
+    let slot = questions::ask_slot(slots::read_group(file, k), link)?;
     sources[k] = true;
     reached[k] = true;
-    let rows = rows::read_rows(file, reached, link, read.first);
-    let verdict = rows.verdict;
-    let coefficients = rows.coefficients;
-    let due = vehicle_fields::zero_where_due(group, coefficients);
-    GroupStep {
-        verdict: questions::ask(verdict, due, 11, link),
+    let coefficients = rows::read_rows(file, reached, link, slot.first)?;
+    let due = vehicle_fields::zero_where_due(slot.group, coefficients);
+    questions::ask(due, Reason::SootOrLead, link)?;
+    Ok(GroupStep {
         source: GroupSource {
-            group,
+            group: slot.group,
             coefficients,
         },
-        next: read.next,
-    }
+        next: slot.next,
+    })
 }
 
 // The bands of the year, where groups are to be summed.
@@ -85,7 +70,7 @@ pub(crate) fn walk_groups(
     totals: &mut [u64],
     h: Header,
     summing: bool,
-) -> Walked
+) -> Result<Counts, Refusal>
     requires { GroupsBegin file.now sources.old reached.old totals.old h }
     ensures { GroupsWalked file.now summing sources.new reached.new totals.new result }
 {
@@ -95,18 +80,11 @@ pub(crate) fn walk_groups(
     let mut counts = walked::no_counts();
     let climate = climate_where(summing & (link != 0), temperatures);
     while link != 0 {
-        let step = step_group(file, sources, reached, holder, link);
-        let verdict = step.verdict;
-        if verdict.number != 0 {
-            return Walked { verdict, counts };
-        }
+        let step = step_group(file, sources, reached, holder, link)?;
         source_sums::add_group(totals, summing, climate, step.source);
         holder = link;
         link = step.next;
         counts.groups += 1;
     }
-    Walked {
-        verdict: Verdict { number: 0, slot: 0 },
-        counts,
-    }
+    Ok(counts)
 }

@@ -4,22 +4,20 @@ ghost use Rattle.slot_file.specs.Questions.{most_slots};
 ghost use Rattle.walk.specs.Steps.{ReachTold};
 
 use slot_file::MOST_SLOTS;
-use sums::Verdict;
+use sums::{Reason, Refusal};
 
 // Question 12, of each slot from 1 up: it ends at the count of slots.
-pub(crate) fn ask_reached(reached: &[bool; MOST_SLOTS], count: usize) -> Verdict
+pub(crate) fn ask_reached(reached: &[bool; MOST_SLOTS], count: usize) -> Result<(), Refusal>
     requires { count ≤ most_slots }
     ensures { ReachTold reached.now count result }
 {
-    let mut i = 1;
-    while i < count {
+    for i in 1..count {
         if !reached[i] {
-            return Verdict {
-                number: 12,
+            return Err(Refusal {
+                reason: Reason::Unreached,
                 slot: i as u16,
-            };
+            });
         }
-        i += 1;
     }
-    Verdict { number: 0, slot: 0 }
+    Ok(())
 }

@@ -1,17 +1,9 @@
-// What a walk answers.
+// What a walk answers: how many groups, store records and locomotives were passed, or the refusal of the first question that is answered no.
 ghost use Rattle.std.specs.Prelude.{◌≡◌, []};
 ghost use Rattle.slot_file.specs.Questions.{groups_so_far};
 ghost use Rattle.slot_file.specs.Figures.{counts_of};
 
 use slot_file::Counts;
-use sums::Verdict;
-
-// What the links were told, and how many groups, store records and locomotives were passed.
-#[derive(Clone, Copy)]
-pub(crate) struct Walked {
-    pub(crate) verdict: Verdict,
-    pub(crate) counts: Counts,
-}
 
 // Nothing is passed.
 pub(crate) fn no_counts() -> Counts

@@ -1,9 +1,9 @@
 -- A band decides the period that the temperature has; the minutes of an untimed and of a timed group; and what a band decides is in range. Assumes nothing.
-use Rattle.std.proofs.Common.{ℕ, suc, ◌<◌, ◌≤◌, arith, ◌≡◌, refl, ap, Bool, true, false, List, ltb-true, le-ltb, ne_eqb, ltb, eqb, lit<, ℤ, pos, get_or}
+use Rattle.std.proofs.Common.{ℕ, suc, ◌<◌, ◌≤◌, arith, ◌≡◌, refl, Bool, true, false, List, ne_eqb, eqb, lit<, ℤ, pos, get_or}
 use lib.Signed.{lt_z}
 use Rattle.sums.specs.Choice.{if_then_else}
 use Rattle.sums.specs.Fraction.{◌over◌}
-use Rattle.sums.proofs.Choices.{no, cases, both, list_to_at}
+use Rattle.sums.proofs.Choices.{both, list_to_at}
 use Rattle.vehicle_fields.specs.Fields.{minus}
 use Rattle.vehicle_fields.specs.declared.group.Group.{Group}
 use Rattle.vehicle_factors.specs.Factors.{factors_in_range}
@@ -11,22 +11,24 @@ use Rattle.vehicle_factors.specs.declared.Factors.{Factors}
 use Rattle.vehicle_factors.proofs.Ranges.{ranged_factors}
 use Rattle.warmups.specs.Temperatures.{below, place, period_of, warmup_band}
 use Rattle.warmups.specs.Warmup.{times_of, untimed_in, untimed_at, tenths_in, minutes_at, period_at}
-use Rattle.warmups.specs.Parts.{climate_of, band_period, period_in, conditions_in, TimesInRange, ConditionsInRange}
+use Rattle.warmups.specs.declared.warmup.Period.{Period}
+use Rattle.warmups.specs.declared.warmup.Period.TheVariants.{Warm, Transitional, Cold}
+use Rattle.warmups.specs.Parts.{climate_of, number_of, band_period, period_in, conditions_in, TimesInRange, ConditionsInRange}
 
 -- both are counted from 5.0 and then from -5.0
-of_band : (t : ℤ) → period_of t ≡ band_period (warmup_band t)
-unfolding place below band_period if_then_else
+of_band : (t : ℤ) → period_of t ≡ number_of (band_period (warmup_band t))
+unfolding place below if_then_else
 of_band t = go (lt_z (pos 50) t) (lt_z t (minus 50)) _
   where
     go : (a b : Bool) (n : ℕ) →
-        if_then_else a 0 (suc (if_then_else b 1 0)) ≡ band_period (if_then_else a 0 (suc (if_then_else b (suc n) 0)))
+        if_then_else a 0 (suc (if_then_else b 1 0)) ≡ number_of (band_period (if_then_else a 0 (suc (if_then_else b (suc n) 0))))
     go true b n = refl
-    go false true n = no (ltb (suc (suc n)) 2) 2 (suc (suc n)) 2 (le-ltb (suc (suc n)) 2 (omega arith)) refl
+    go false true n = refl
     go false false n = refl
 
-pub period_same : (g : Group) (t : ℤ) → period_at g t ≡ period_in g (warmup_band t)
-unfolding period_at period_in
-period_same g t = ap (if_then_else g.heated 0) (of_band t)
+pub period_same : (g : Group) (t : ℤ) → period_at g t ≡ number_of (period_in g (warmup_band t))
+unfolding period_at period_in if_then_else
+period_same g t = elim g.heated as (λ b. if_then_else b 0 (period_of t) ≡ number_of (if_then_else b Warm (band_period (warmup_band t)))) [ true ↦ refl | false ↦ of_band t ]
 
 -- THE MINUTES of an untimed group are those of the table, or the heated stand's 1.5; those of a timed one are its own, at every temperature
 pub untimed : (f : Factors) (g : Group) → g.timed.0 ≡ 0 → (t : ℤ) → minutes_at f g t ≡ untimed_at f g t
@@ -42,12 +44,10 @@ pub band_at : (ts : List ℤ) (m : ℕ) → m < 12 → get_or (climate_of ts).ba
 unfolding climate_of
 band_at ts m h = list_to_at 0 12 (λ (m : ℕ). warmup_band (get_or ts m (pos 0))) m h
 
-abbrev Three : ℕ → Type 0
-Three n = n < 3
-
-pub period_below : (g : Group) (band : ℕ) → period_in g band < 3
-unfolding period_in band_period
-period_below g band = both Three g.heated (lit< tt) (cases Three (ltb band 2) (λ h. omega (arith, ltb-true band 2 h)) (λ _. lit< tt))
+pub number_below : (p : Period) → number_of p < 3
+number_below Warm = lit< tt
+number_below Transitional = lit< tt
+number_below Cold = lit< tt
 
 pub times_in_range : (f : Factors) → factors_in_range f ≡ true → (category : ℕ) → TimesInRange (times_of f category)
 unfolding times_of
@@ -66,4 +66,4 @@ module _ (times : List ℕ) (h : TimesInRange times) (g : Group) (t : g.timed.0 
 
   pub conditions_in_range : ConditionsInRange (conditions_in times g band)
   unfolding conditions_in
-  conditions_in_range = record { period = period_below g band; minutes = tenths_most }
+  conditions_in_range = record { minutes = tenths_most }

@@ -15,14 +15,8 @@ pub struct Climate {
 pub fn climate_of(ts: [i16; 12]) -> Climate
     ensures { result ≡ climate_of ts }
 {
-    let mut bands = [0; 12];
-    let mut i = 0;
-    while i < 12 {
-        bands[i] = temperature::warmup_band(ts[i]);
-        i += 1;
-    }
     Climate {
-        bands,
+        bands: ts.map(temperature::warmup_band),
         coldest: temperature::warmup_band(temperature::lowest(ts)),
     }
 }

@@ -6,4 +6,4 @@ mod temperature;
 pub mod warmup;
 
 pub use climate::{Climate, climate_of};
-pub use warmup::{Conditions, conditions_in, times_of};
+pub use warmup::{Conditions, Period, conditions_in, times_of};

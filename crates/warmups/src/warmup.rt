@@ -1,19 +1,37 @@
 // Warm-up minutes, heated stands, and timed warm-ups.
 ghost use Rattle.std.specs.Prelude.{◌≡◌, ◌<◌, get_or};
 ghost use Rattle.warmups.specs.Warmup.{times_of, untimed_in, tenths_in};
-ghost use Rattle.warmups.specs.Parts.{tenths, band_period, period_in, conditions_in};
+ghost use Rattle.warmups.specs.Parts.{tenths, number_of, band_period, period_in, conditions_in};
 
 use vehicle_factors::{BANDS, Factors};
 use vehicle_fields::{Group, Minutes};
 
-// What a month's band decides: the period whose coefficients count, 0 warm, 1 transitional, 2 cold, and the warm-up minutes.
+// The periods of the year, each of which has coefficients of its own.
+#[derive(Clone, Copy)]
+pub enum Period {
+    Warm,
+    Transitional,
+    Cold,
+}
+
+impl Period {
+    // Its place in what is given for each period.
+    pub fn place(self) -> usize
+        ensures { (result ≡ number_of self) × (result < 3) }
+    {
+        self as usize
+    }
+}
+
+// What a month's band decides: the period whose coefficients count, and the warm-up minutes.
 #[derive(Clone, Copy)]
 pub struct Conditions {
-    pub period: usize,
+    pub period: Period,
     pub minutes: Minutes,
 }
 
-// The row of a category.
+// The row of a category, which stays a number, since a public function takes any: another than 1 and 2 has the bus's.
+#[tactic(auto, unfolding(crate::specs::Warmup::times_of, sums::specs::Choice::if_then_else))]
 pub fn times_of(f: Factors, category: u8) -> [u16; BANDS]
     ensures { result ≡ times_of f category }
 {
@@ -24,14 +42,14 @@ pub fn times_of(f: Factors, category: u8) -> [u16; BANDS]
     }
 }
 
-// The time at a band; none past the last.
+// The time at a band; 0 past the last, which no temperature has.
 fn time_at(times: [u16; BANDS], band: u8) -> u32
     ensures { result ≡ get_or times band 0 }
 {
-    let at = band as usize;
-    if at < BANDS { times[at] as u32 } else { 0 }
+    times.get(usize::from(band)).map_or(0, |t| u32::from(*t))
 }
 
+#[tactic(auto, unfolding(crate::specs::Warmup::untimed_in, sums::specs::Choice::if_then_else))]
 fn untimed_in(times: [u16; BANDS], g: Group, band: u8) -> Minutes
     ensures { result ≡ tenths (untimed_in times g band) }
 {
@@ -54,20 +72,29 @@ fn minutes_in(times: [u16; BANDS], g: Group, band: u8) -> Minutes
     }
 }
 
-fn band_period(band: u8) -> usize
+fn band_period(band: u8) -> Period
     ensures { result ≡ band_period band }
 {
-    if band < 2 { band as usize } else { 2 }
+    match band {
+        0 => Period::Warm,
+        1 => Period::Transitional,
+        _ => Period::Cold,
+    }
 }
 
-fn period_in(g: Group, band: u8) -> usize
+#[tactic(auto, unfolding(crate::specs::Parts::period_in, sums::specs::Choice::if_then_else))]
+fn period_in(g: Group, band: u8) -> Period
     ensures { result ≡ period_in g band }
 {
-    if g.heated { 0 } else { band_period(band) }
+    if g.heated {
+        return Period::Warm;
+    }
+    band_period(band)
 }
 
+#[tactic(auto, unfolding(crate::specs::Parts::conditions_in))]
 pub fn conditions_in(times: [u16; BANDS], g: Group, band: u8) -> Conditions
-    ensures { (result ≡ conditions_in times g band) × (result.period < 3) }
+    ensures { result ≡ conditions_in times g band }
 {
     Conditions {
         period: period_in(g, band),

@@ -1,7 +1,6 @@
 -- The figures of the places passed stand in their places.
 use Rattle.std.proofs.Common.{arith, ◌≡◌, refl, ap, ◌∙◌, ◌%◌, ◌^◌, length-set}
-use Rattle.sums.specs.Figures.{annual_rounded, peak_rounded}
-use Rattle.sums.specs.declared.words.Words.{Words}
+use Rattle.sums.specs.Figures.{AnnualSum, PeakSum, sum_in, annual_rounded, peak_rounded}
 use Rattle.sums.proofs.Choices.{filled, list_to_is}
 use Rattle.slot_file.specs.Codes.{code_count}
 use Rattle.totals.specs.Totals.{annual_in, peak_in, figures_of}
@@ -14,8 +13,8 @@ pub loop-i-preserved : goal.loop-i-preserved
 loop-i-preserved c =
     let l = c.args.totals.now in
     let i = c.loop-i.i in
-    let a = c.rounded.ensures ∙ ap (λ (m : Words). annual_rounded (record { 0 = m }) % 2 ^ 64) c.sum_at.ensures in
-    let p = c.rounded-in-loop-i.ensures ∙ ap (λ (m : Words). peak_rounded (record { 0 = m }) % 2 ^ 64) c.sum_at-in-loop-i.ensures in (
+    let a = c.rounded.ensures ∙ ap (λ (s : AnnualSum). annual_rounded s % 2 ^ 64) (c.from.ensures ∙ ap sum_in c.sum_at.ensures) in
+    let p = c.rounded-in-loop-i.ensures ∙ ap (λ (s : PeakSum). peak_rounded s % 2 ^ 64) (c.from-in-loop-i.ensures ∙ ap sum_in c.sum_at-in-loop-i.ensures) in (
       omega arith,
       simp length-set c.loop-i.invariant.1,
       simp length-set c.loop-i.invariant.2,

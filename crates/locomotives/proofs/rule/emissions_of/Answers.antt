@@ -6,7 +6,7 @@ use Rattle.sums.proofs.Fractions.{parts}
 use Rattle.locomotive_fields.specs.Fields.{mode_count, locomotive_in_range}
 use Rattle.locomotive_fields.specs.declared.fields.Locomotive.{Locomotive}
 use Rattle.locomotives.specs.Rules.{substance_count, locomotive_contribution, locomotive_emissions}
-use Rattle.locomotives.specs.Parts.{mean_parts, greatest_parts, modes_of, hour_parts, emission_parts}
+use Rattle.locomotives.specs.Parts.{mean_parts, greatest_parts, modes_of, all_modes, hour_parts, emission_parts}
 use Rattle.locomotives.proofs.Paper.{locomotive_counted}
 use Rattle.locomotives.proofs.Bounds.{greatest_most, hour_most, mean_most}
 use Rattle.locomotives.proofs.rule.emissions_of.Goals as goal
@@ -25,16 +25,19 @@ pub modes_of-modes-requires : goal.modes_of-modes-requires
 modes_of-modes-requires c = c.requires
 
 pub emission_of-requires : goal.emission_of-requires
+unfolding all_modes list_to
 emission_of-requires c = rw (c.modes_of-modes.ensures, c.hours_of-hours.ensures) (bounds c.args.l 0 c.requires (omega arith))
 
 pub emission_of-requires-2 : goal.emission_of-requires-2
+unfolding all_modes list_to
 emission_of-requires-2 c = rw (c.modes_of-modes.ensures, c.hours_of-hours.ensures) (bounds c.args.l 1 c.requires (omega arith))
 
 pub emission_of-requires-3 : goal.emission_of-requires-3
+unfolding all_modes list_to
 emission_of-requires-3 c = rw (c.modes_of-modes.ensures, c.hours_of-hours.ensures) (bounds c.args.l 2 c.requires (omega arith))
 
 pub returns : goal.returns
-unfolding locomotive_emissions list_to
+unfolding locomotive_emissions all_modes list_to
 returns c =
     let l = c.args.l in
     rw (

@@ -1,10 +1,12 @@
--- Twelve signed numbers, each read back from its bits.
-use borrow.Author.Rules.{sfits_of}
-use Rattle.sums.specs.Choice.{list_to}
+-- Twelve signed numbers, as they are read.
+use Rattle.std.proofs.Common.{rules, ◌≡◌, ◌+◌, ◌*◌, refl, pos}
+use Rattle.slots.specs.Bytes.{i16_at}
 use Rattle.slots.specs.Layout.{temperatures_of}
-use Rattle.slots.proofs.Signed.{held}
+use Rattle.slots.proofs.Made.{made}
 use Rattle.slots.proofs.header.temperatures_of.Goals as goal
 
 pub returns : goal.returns
-unfolding temperatures_of list_to
-returns c = search (sfits_of, held) depth 20
+unfolding temperatures_of
+returns c =
+    let t = c.args.t in
+    made _ (pos 0) (λ m. i16_at t.now (8 + 2 * m)) (λ p. p.0 ≡ t) (λ i y p q a k. search rules) _ _ 12 refl c.from_fn.ensures.items

@@ -1,15 +1,12 @@
 -- Five numbers, as they are read.
-use Rattle.sums.specs.Choice.{list_to}
+use Rattle.std.proofs.Common.{rules, ◌≡◌, ◌+◌, ◌*◌, refl}
+use Rattle.slots.specs.Bytes.{u16_at}
 use Rattle.slots.specs.Layout.{shares_of}
+use Rattle.slots.proofs.Made.{made}
 use Rattle.slots.proofs.locomotive.shares_of.Goals as goal
 
 pub returns : goal.returns
-unfolding shares_of list_to
+unfolding shares_of
 returns c =
-    rw (
-      c.u16_at-5.ensures,
-      c.u16_at-4.ensures,
-      c.u16_at-3.ensures,
-      c.u16_at-2.ensures,
-      c.u16_at.ensures,
-    )
+    let t = c.args.t in
+    made _ 0 (λ m. u16_at t.now (4 + 2 * m)) (λ p. p.0 ≡ t) (λ i y p q a k. search rules) _ _ 5 refl c.from_fn.ensures.items

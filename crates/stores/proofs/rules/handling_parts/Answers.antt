@@ -28,7 +28,7 @@ overflow_mul-result-3 c = Fits-below tt (le_refl 5 ⊗ c.k1.ensures.1 ⊗ c.k2.e
 
 pub overflow_mul-result-4 : goal.overflow_mul-result-4
 unfolding handling_parts
-overflow_mul-result-4 c = let h = handling _ c.requires in Fits-below tt (le_refl 5 ⊗ c.k1.ensures.1 ⊗ c.k2.ensures.1 ⊗ c.exposure.ensures.1 ⊗ h.bulk.amount)
+overflow_mul-result-4 c = let h = handling _ c.requires in rw c.from.ensures (Fits-below tt (le_refl 5 ⊗ c.k1.ensures.1 ⊗ c.k2.ensures.1 ⊗ c.exposure.ensures.1 ⊗ h.bulk.amount))
 
 pub drop_factor-requires : goal.drop_factor-requires
 unfolding handling_parts
@@ -36,8 +36,8 @@ drop_factor-requires c = (handling _ c.requires).drop
 
 pub overflow_mul-result-5 : goal.overflow_mul-result-5
 unfolding handling_parts
-overflow_mul-result-5 c = let h = handling _ c.requires in Fits-below tt (le_refl 5 ⊗ c.k1.ensures.1 ⊗ c.k2.ensures.1 ⊗ c.exposure.ensures.1 ⊗ h.bulk.amount ⊗ c.drop_factor.ensures.1)
+overflow_mul-result-5 c = let h = handling _ c.requires in rw c.from.ensures (Fits-below tt (le_refl 5 ⊗ c.k1.ensures.1 ⊗ c.k2.ensures.1 ⊗ c.exposure.ensures.1 ⊗ h.bulk.amount ⊗ c.drop_factor.ensures.1))
 
 pub returns : goal.returns
 unfolding handling_parts
-returns c = rw (c.k1.ensures.0, c.k2.ensures.0, c.exposure.ensures.0, c.drop_factor.ensures.0)
+returns c = rw (c.from.ensures, c.k1.ensures.0, c.k2.ensures.0, c.exposure.ensures.0, c.drop_factor.ensures.0)

@@ -28,8 +28,8 @@ overflow_mul-result-3 c = Fits-below tt (le_refl 6 ⊗ c.exposure.ensures.1 ⊗ 
 
 pub overflow_mul-result-4 : goal.overflow_mul-result-4
 unfolding standing_parts
-overflow_mul-result-4 c = let h = standing _ c.requires in Fits-below tt (le_refl 6 ⊗ c.exposure.ensures.1 ⊗ c.k6.ensures.1 ⊗ c.q.ensures.1 ⊗ h.bulk.amount)
+overflow_mul-result-4 c = let h = standing _ c.requires in rw c.from.ensures (Fits-below tt (le_refl 6 ⊗ c.exposure.ensures.1 ⊗ c.k6.ensures.1 ⊗ c.q.ensures.1 ⊗ h.bulk.amount))
 
 pub returns : goal.returns
 unfolding standing_parts
-returns c = rw (c.exposure.ensures.0, c.k6.ensures.0, c.q.ensures.0)
+returns c = rw (c.from.ensures, c.exposure.ensures.0, c.k6.ensures.0, c.q.ensures.0)

@@ -17,4 +17,4 @@ returns-then-hundredths-eq0 c = met (hundredths _ (yes _ _ _ _ (eq-eqb _ 0 c.if-
 
 pub returns-else-hundredths-eq0 : goal.returns-else-hundredths-eq0
 unfolding k6_of
-returns-else-hundredths-eq0 c = met (hundredths _ (no _ _ _ _ (ne_eqb _ 0 c.if-hundredths-eq0.false) refl)) (k6_scaled _ c.requires)
+returns-else-hundredths-eq0 c = rw c.from.ensures (met (hundredths _ (no _ _ _ _ (ne_eqb _ 0 c.if-hundredths-eq0.false) refl)) (k6_scaled _ c.requires))

@@ -1,21 +1,16 @@
--- The tests of the months passed all hold.
-use Rattle.std.proofs.Common.{rules, arith, ◌≡◌, pos, get_or, w16, to_z-of_z}
-use Rattle.sums.specs.Choice.{all_to}
-use Rattle.sums.proofs.Choices.{all_to_step}
-use Rattle.vehicle_fields.specs.Fields.{temperatures_in_range}
-use Rattle.vehicle_fields.proofs.temperature.temperatures_in_range.Invariants.{test}
+-- The temperatures' tests are those at their places.
+use Rattle.std.proofs.Common.{◌≡◌, ◌∙◌, pos, rules, tests, refl}
+use Rattle.std.specs.List.{list_all}
+use Rattle.std.proofs.lemmas.Iterator.{YieldsList-from_slice}
+use Rattle.std.proofs.lemmas.Iterator.Search.{all_from_yields_List}
+use Rattle.sums.proofs.Choices.{all_to_list}
+use Rattle.vehicle_fields.specs.Fields.{temperature_in_range, temperatures_in_range}
 use Rattle.vehicle_fields.proofs.temperature.temperatures_in_range.Goals as goal
-
-pub loop-i-init : goal.loop-i-init
-unfolding all_to
-loop-i-init c = search rules
-
-pub loop-i-preserved : goal.loop-i-preserved
-loop-i-preserved c =
-    let ts = c.args.ts in
-    let x = to_z-of_z {w = w16} {z = get_or ts c.loop-i.i (pos 0)} (omega arith) in
-    (omega arith, rw (c.loop-i.invariant.1, simp x at c.temperature_in_range-ok.ensures, all_to_step c.loop-i.i (test ts)))
 
 pub returns : goal.returns
 unfolding temperatures_in_range
-returns c = let e : c.loop-i.i ≡ 12 = omega arith in rw e at c.loop-i.invariant.1
+returns c =
+    let xs = c.args.ts in
+    let e : c.all.result ≡ list_all temperature_in_range xs =
+    all_from_yields_List temperature_in_range _ _ c.all.result c.all.ensures.ran (YieldsList-from_slice xs cc) (λ x b q k. search (rules, tests)) in
+    e ∙ all_to_list (pos 0) temperature_in_range 12 _ xs (search rules) (λ m p. refl)

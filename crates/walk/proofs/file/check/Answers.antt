@@ -1,19 +1,12 @@
 -- The walk means what the outcome means, and only one outcome does (`Outcomes.only`).
 use Rattle.std.proofs.Common.{sym, ap}
-use Rattle.slot_file.specs.Questions.{Outcome, accepted, refused}
+use Rattle.slot_file.specs.Questions.{accepted, refused}
 use Rattle.slot_file.specs.Walk.{told}
 use Rattle.slot_file.proofs.Outcomes.{only}
 use Rattle.walk.proofs.file.check.Goals as goal
 
-pub walk_file-walked-requires : goal.walk_file-walked-requires
-walk_file-walked-requires c = c.none-totals.ensures
+pub returns-in-Ok : goal.returns-in-Ok
+returns-in-Ok c = let a = c.in-Ok.ensures in sym (ap told (only c.args.file.now (accepted a.c) a.accepts))
 
-pub returns-then-verdict-ne0 : goal.returns-then-verdict-ne0
-returns-then-verdict-ne0 c =
-    let v = c.walk_file-walked.result.verdict in
-    sym (ap (λ (x : Outcome). told x) (only _ (refused v.number v.slot) (c.walk_file-walked.ensures.refuses c.if-verdict-ne0.true)))
-
-pub returns : goal.returns
-returns c =
-    let a = c.walk_file-walked.ensures.passes c.if-verdict-ne0.false in
-    sym (ap (λ (x : Outcome). told x) (only _ (accepted a.c) a.accepts))
+pub returns-in-Err : goal.returns-in-Err
+returns-in-Err c = sym (ap told (only c.args.file.now (refused c.in-Err.refusal) c.in-Err.ensures))

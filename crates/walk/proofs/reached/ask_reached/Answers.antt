@@ -1,38 +1,42 @@
 -- The slots passed are all reached, so the rest is told of the whole.
-use Rattle.std.proofs.Common.{arith, ℕ, suc, ◌+◌, ◌-◌, ◌≡◌, refl, List, ◌∷◌}
-use Rattle.slot_file.specs.Questions.{question, member, reach_asks}
-use Rattle.questions.proofs.Telling.{marked, rest_whole, rest_on, told_here, told_all}
+use Rattle.std.proofs.Common.{arith, ℕ, suc, ◌+◌, ◌-◌, ◌≡◌, refl, sym, ◌∙◌, Bool, List, Err}
+use Rattle.sums.specs.Choice.{if_then_else}
+use Rattle.sums.specs.declared.answer.Reason.TheVariants.{Unreached}
+use Rattle.slot_file.specs.Questions.{member, reach_asks}
+use Rattle.questions.specs.Told.{told_by}
+use Rattle.questions.proofs.Telling.{marked}
 use Rattle.walk.proofs.reached.ask_reached.Goals as goal
 
--- the questions of one slot more
-reach_turn : (n m i : ℕ) (l : List ℕ) → n ≡ suc m → reach_asks n i l ≡ question (member i l) 12 i ∷ reach_asks m (i + 1) l
-unfolding reach_asks
-reach_turn n m i l e = rw e
+-- what is told from slot i on, by whether that slot is reached
+reach_turn : (n m i : ℕ) (l : List ℕ) {b : Bool} → n ≡ suc m → member i l ≡ b
+    → told_by (reach_asks n i l) ≡ if_then_else b (told_by (reach_asks m (i + 1) l)) (Err (record { reason = Unreached; slot = i }))
+unfolding reach_asks told_by
+reach_turn n m i l e b = rw (e, b)
 
 pub loop-i-init : goal.loop-i-init
-loop-i-init c = (omega arith, λ l m. rest_whole)
+loop-i-init c = (omega arith, λ l m. refl)
 
 pub returns-then-not-reached-i : goal.returns-then-not-reached-i
+unfolding if_then_else
 returns-then-not-reached-i c l m =
     let i = c.loop-i.i in
     let n = c.args.count in
-    let e = reach_turn (n - i) (n - (i + 1)) i l (omega arith) in
     let t = marked l i m (λ z. omega arith) (omega arith) c.if-not-reached-i.true in
-    told_here refl t (rw e at (c.loop-i.invariant.1 l m))
+    sym (c.loop-i.invariant.1 l m ∙ reach_turn (n - i) (n - (i + 1)) i l (omega arith) t)
 
 pub loop-i-preserved : goal.loop-i-preserved
+unfolding if_then_else
 loop-i-preserved c =
     let i = c.loop-i.i in
     let n = c.args.count in (
       omega arith,
       λ l m.
-          let e = reach_turn (n - i) (n - (i + 1)) i l (omega arith) in
           let t = marked l i m (λ z. omega arith) (omega arith) c.if-not-reached-i.false in
-          rest_on t (rw e at (c.loop-i.invariant.1 l m)),
+          c.loop-i.invariant.1 l m ∙ reach_turn (n - i) (n - (i + 1)) i l (omega arith) t,
     )
 
 pub returns : goal.returns
-unfolding reach_asks
+unfolding reach_asks told_by
 returns c l m =
     let e : c.args.count - c.loop-i.i ≡ 0 = omega arith in
-    told_all refl (rw e at (c.loop-i.invariant.1 l m))
+    sym (rw e at (c.loop-i.invariant.1 l m))

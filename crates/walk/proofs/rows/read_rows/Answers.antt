@@ -1,89 +1,119 @@
 -- The rows passed stand in their places, their questions are answered yes and their slots are marked.
-use Rattle.std.proofs.Common.{rules, arith, ℕ, ◌-◌, ◌≡◌, refl, sym, ap, ◌∙◌, true, [], ◌∷◌, add-one, ltb-true, eq-eqb, ne_eqb, set}
+use Rattle.std.proofs.Common.{rules, true, arith, ℕ, ◌<◌, ◌≡◌, refl, ap, ◌∙◌, [], ◌∷◌, List, Bool, add-one, ltb-true, set, Err}
 use Rattle.sums.proofs.Choices.{filled, list_to_is}
+use Rattle.sums.specs.declared.answer.Refusal.{Refusal}
 use Rattle.vehicle_fields.specs.Fields.{pollutant_count, no_coefficients}
 use Rattle.slots.specs.Bytes.{slot_of}
-use Rattle.slots.specs.Layout.{coefficients_read}
-use Rattle.slots.specs.declared.coefficients.CoefficientsRead.{CoefficientsRead}
+use Rattle.slots.specs.Layout.{next_of, coefficients_of, coefficients_kind, coefficients_good, coefficient_slot_of, coefficients_read}
+use Rattle.slots.specs.declared.coefficients.CoefficientSlot.{CoefficientSlot}
 use Rattle.slot_file.specs.Sources.{coefficient_slot, group_at}
 use Rattle.slot_file.specs.Questions.{slot_count, coefficient_holder, coefficient_asks, rows_asks, after_sixth}
-use Rattle.slot_file.specs.Meaning.{here}
-use Rattle.walk.specs.Rows.{marks_to}
-use Rattle.questions.proofs.Telling.{told_no, told_yes, row_told}
+use Rattle.slot_file.specs.Meaning.{AllYes, FirstNo}
+use Rattle.questions.specs.Told.{row_asked}
+use Rattle.questions.proofs.Telling.{told_ok, told_err, handed_on, slot_ok, slot_err}
 use Rattle.slot_file.proofs.Asking.{all_append, no_before, no_after}
 use Rattle.slot_file.proofs.SixRows.{rows_yes, rows_no}
+use Rattle.walk.specs.Rows.{marks_to, RowsRead}
+use Rattle.walk.proofs.RowAsks.{no_front, no_slot, no_turn, all_row}
 use Rattle.walk.proofs.rows.read_rows.Goals as goal
+
+-- the first no of a row is that of all rows, where the rows before it are answered yes
+refused : (s : List ℕ) (g n : ℕ) {before after : List Bool} {e : Refusal} → n < pollutant_count → AllYes (rows_asks s g n) → FirstNo (coefficient_asks s g n) e
+    → RowsRead s g before after (Err e)
+refused s g n h y f = record {
+  told = no_before (rows_asks s g pollutant_count) (after_sixth s g ∷ []) (rows_no s g pollutant_count n h y f);
+  coefficients = tt;
+  marks = tt;
+}
 
 pub loop-n-init : goal.loop-n-init
 unfolding rows_asks coefficient_holder coefficient_slot marks_to
-loop-n-init c = (omega arith, omega arith, tt, refl, c.requires.1, refl, λ m q. absurd (omega arith))
+loop-n-init c = record { room = refl; yes = tt; holder_is = refl; link_is = c.requires.1; marks = refl; read = λ m q. absurd (omega arith) }
 
-pub returns-then-verdict-ne0 : goal.returns-then-verdict-ne0
-returns-then-verdict-ne0 c =
+pub returns-in_err-ask_row : goal.returns-in_err-ask_row
+returns-in_err-ask_row c =
     let a = c.args in
-    let s = a.file.now in
-    let told = row_told s a.g c.loop-n.n c.loop-n.holder c.loop-n.link c.row_at-row.result c.loop-n.invariant.3 c.loop-n.invariant.4 c.row_at-row.ensures c.ask_row-verdict.ensures in
-    record {
-      told = record {
-        all = λ z. absurd (c.if-verdict-ne0.true z);
-        first = λ z. no_before (rows_asks s a.g pollutant_count) (after_sixth s a.g ∷ []) (rows_no s a.g pollutant_count c.loop-n.n (omega arith) c.loop-n.invariant.2 (told.first z));
-      };
-      coefficients = λ z. absurd (c.if-verdict-ne0.true z);
-      marks = λ z. absurd (c.if-verdict-ne0.true z);
-    }
+    let i = c.loop-n.invariant in
+    let f = told_err (row_asked a.file.now c.loop-n.holder c.loop-n.link) c.ask_row.ensures c.in_err-ask_row.was in
+    handed_on (RowsRead _ _ _ _) c.from_residual.ensures (refused a.file.now a.g c.loop-n.n (omega arith) i.yes (no_front a.file.now a.g c.loop-n.n (rw (i.holder_is, i.link_is) at f)))
 
-pub bounds-reached-slot_index : goal.bounds-reached-slot_index
-unfolding coefficient_asks
-bounds-reached-slot_index c =
+pub returns-in_err-row : goal.returns-in_err-row
+unfolding coefficients_read
+returns-in_err-row c =
     let a = c.args in
-    let told = row_told a.file.now a.g c.loop-n.n c.loop-n.holder c.loop-n.link c.row_at-row.result c.loop-n.invariant.3 c.loop-n.invariant.4 c.row_at-row.ensures c.ask_row-verdict.ensures in
-    let l = ltb-true (coefficient_slot a.file.now a.g c.loop-n.n) (slot_count a.file.now) (told.all c.if-verdict-ne0.false).1.0 in
-    omega (arith, l, c.loop-n.invariant.4)
+    let i = c.loop-n.invariant in
+    let t = slot_of a.file.now c.loop-n.link in
+    let y = told_ok (row_asked a.file.now c.loop-n.holder c.loop-n.link) c.ask_row.ensures c.in_ok-ask_row.was in
+    let f = slot_err (coefficients_kind t) (coefficients_good t (coefficients_of t)) c.loop-n.link (coefficient_slot_of t) c.ask_slot.ensures c.read_coefficients.ensures c.in_err-row.was in
+    handed_on (RowsRead _ _ _ _) c.from_residual-in_err-row.ensures
+    (refused a.file.now a.g c.loop-n.n (omega arith) i.yes (no_slot a.file.now a.g c.loop-n.n (rw i.link_is at y) (rw i.link_is at f)))
+
+pub returns-in_err-ask : goal.returns-in_err-ask
+unfolding coefficients_read coefficient_slot_of
+returns-in_err-ask c =
+    let a = c.args in
+    let i = c.loop-n.invariant in
+    let k = c.loop-n.link in
+    let t = slot_of a.file.now k in
+    let y = told_ok (row_asked a.file.now c.loop-n.holder k) c.ask_row.ensures c.in_ok-ask_row.was in
+    let r = slot_ok (coefficients_kind t) (coefficients_good t (coefficients_of t)) k (coefficient_slot_of t) c.ask_slot.ensures c.read_coefficients.ensures c.in_ok-row.was in
+    let f = told_err _ c.ask.ensures c.in_err-ask.was in
+    let p = ap (λ (x : CoefficientSlot). x.pollutant) r.1 in
+    handed_on (RowsRead _ _ _ _) c.from_residual-in_err-ask.ensures
+    (refused a.file.now a.g c.loop-n.n (omega arith) i.yes (no_turn a.file.now a.g c.loop-n.n (rw i.link_is at y) (rw i.link_is at r.0) (rw (p, i.link_is) at f)))
+
+pub bounds-reached-k : goal.bounds-reached-k
+bounds-reached-k c =
+    let a = c.args in
+    let y = told_ok (row_asked a.file.now c.loop-n.holder c.loop-n.link) c.ask_row.ensures c.in_ok-ask_row.was in
+    omega (arith, ltb-true c.loop-n.link (slot_count a.file.now) y.1.0)
 
 pub loop-n-preserved : goal.loop-n-preserved
-unfolding coefficient_holder coefficient_slot marks_to
+unfolding coefficients_read coefficient_slot_of coefficient_holder coefficient_slot marks_to
 loop-n-preserved c =
     let a = c.args in
     let s = a.file.now in
-    let row = c.row_at-row.ensures in
-    let told = row_told s a.g c.loop-n.n c.loop-n.holder c.loop-n.link c.row_at-row.result c.loop-n.invariant.3 c.loop-n.invariant.4 row c.ask_row-verdict.ensures in
-    let e = c.loop-n.invariant.4 in (
-      omega arith,
-      search rules,
-      rows_yes s a.g c.loop-n.n c.loop-n.invariant.2 (told.all c.if-verdict-ne0.false),
-      rw add-one e,
-      rw add-one (ap (λ (r : CoefficientsRead). r.next) row ∙ ap (λ (k : ℕ). (coefficients_read (slot_of s k)).next) e),
-      rw (add-one, c.slot_index.ensures) (λ i. set (c.loop-n.invariant.5 i) (e i) true),
-      filled no_coefficients c.loop-n.coefficients c.loop-n.n _ (λ (m : ℕ). (coefficients_read (slot_of s (coefficient_slot s a.g m))).coefficients)
-          (omega arith) c.loop-n.invariant.6
-          (ap (λ (r : CoefficientsRead). r.coefficients) row ∙ ap (λ (k : ℕ). (coefficients_read (slot_of s k)).coefficients) e),
-    )
+    let i = c.loop-n.invariant in
+    let k = c.loop-n.link in
+    let t = slot_of s k in
+    let y = told_ok (row_asked s c.loop-n.holder k) c.ask_row.ensures c.in_ok-ask_row.was in
+    let r = slot_ok (coefficients_kind t) (coefficients_good t (coefficients_of t)) k (coefficient_slot_of t) c.ask_slot.ensures c.read_coefficients.ensures c.in_ok-row.was in
+    let u = told_ok _ c.ask.ensures c.in_ok-ask.was in
+    let p = ap (λ (x : CoefficientSlot). x.pollutant) r.1 in
+    record {
+      room = search rules;
+      yes = rows_yes s a.g c.loop-n.n i.yes (all_row s a.g c.loop-n.n (rw i.link_is at y) (rw i.link_is at r.0) (rw (p, i.link_is) at u));
+      holder_is = rw add-one i.link_is;
+      link_is = rw add-one (ap (λ (x : CoefficientSlot). x.next) r.1 ∙ ap (λ (k : ℕ). next_of (slot_of s k)) i.link_is);
+      marks = rw add-one (λ j. set (i.marks j) (i.link_is j) true);
+      read = filled no_coefficients c.loop-n.coefficients c.loop-n.n _ (λ (m : ℕ). coefficients_of (slot_of s (coefficient_slot s a.g m))) (omega arith) i.read
+          (ap (λ (x : CoefficientSlot). x.coefficients) r.1 ∙ ap (λ (k : ℕ). coefficients_of (slot_of s k)) i.link_is);
+    }
 
-pub returns-then-link-ne0 : goal.returns-then-link-ne0
+pub returns-in_err-ask-2 : goal.returns-in_err-ask-2
 unfolding coefficient_holder
-returns-then-link-ne0 c =
+returns-in_err-ask-2 c =
     let a = c.args in
     let s = a.file.now in
+    let i = c.loop-n.invariant in
     let n : c.loop-n.n ≡ pollutant_count = omega arith in
-    let z : coefficient_slot s a.g pollutant_count ≡ 0 → ⊥ = λ z. c.if-link-ne0.true (rw n at c.loop-n.invariant.4 ∙ z) in
-    record {
-      told = told_no 10 (coefficient_slot s a.g (pollutant_count - 1)) (ap (λ (k : ℕ). record { number = 10; slot = k }) (rw n at c.loop-n.invariant.3)) (omega arith)
-          (no_after (rows_asks s a.g pollutant_count) (after_sixth s a.g ∷ []) (rw n at c.loop-n.invariant.2) (here _ _ (ne_eqb _ 0 z)));
-      coefficients = λ y. absurd (omega (arith, y));
-      marks = λ y. absurd (omega (arith, y));
-    }
+    let f = told_err _ c.ask-2.ensures c.in_err-ask-2.was in
+    handed_on (RowsRead _ _ _ _) c.from_residual-in_err-ask-2.ensures (record {
+      told = no_after (rows_asks s a.g pollutant_count) (after_sixth s a.g ∷ []) (rw n at i.yes) (rw (i.holder_is, i.link_is, n) at f);
+      coefficients = tt;
+      marks = tt;
+    })
 
 pub returns : goal.returns
 unfolding group_at
 returns c =
     let a = c.args in
     let s = a.file.now in
+    let i = c.loop-n.invariant in
     let n : c.loop-n.n ≡ pollutant_count = omega arith in
-    let z : coefficient_slot s a.g pollutant_count ≡ 0 = sym (rw n at c.loop-n.invariant.4) ∙ c.if-link-ne0.false in
+    let y = told_ok _ c.ask-2.ensures c.in_ok-ask-2.was in
     record {
-      told = told_yes refl (all_append (rows_asks s a.g pollutant_count) (after_sixth s a.g ∷ []) (rw n at c.loop-n.invariant.2) (eq-eqb _ 0 z, tt));
-      coefficients = λ _.
-          list_to_is no_coefficients pollutant_count c.loop-n.coefficients (λ (m : ℕ). (coefficients_read (slot_of s (coefficient_slot s a.g m))).coefficients) c.loop-n.invariant.1
-          (rw n at c.loop-n.invariant.6);
-      marks = λ _. rw n at c.loop-n.invariant.5;
+      told = all_append (rows_asks s a.g pollutant_count) (after_sixth s a.g ∷ []) (rw n at i.yes) (rw (i.link_is, n) at y);
+      coefficients = list_to_is no_coefficients pollutant_count c.loop-n.coefficients (λ (m : ℕ). coefficients_of (slot_of s (coefficient_slot s a.g m))) i.room (rw n at i.read);
+      marks = rw n at i.marks;
     }

@@ -1,8 +1,8 @@
 -- The rows passed stand in their places, their questions are answered yes and their slots are marked.
-use Rattle.std.proofs.Common.{ℕ, ◌≤◌, ◌<◌, ◌-◌, ◌≡◌, get_or, length}
+use Rattle.std.proofs.Common.{ℕ, ◌<◌, ◌≡◌, get_or, length}
 use Rattle.vehicle_fields.specs.Fields.{pollutant_count, no_coefficients}
 use Rattle.slots.specs.Bytes.{slot_of}
-use Rattle.slots.specs.Layout.{coefficients_read}
+use Rattle.slots.specs.Layout.{coefficients_of}
 use Rattle.slot_file.specs.Sources.{coefficient_slot}
 use Rattle.slot_file.specs.Questions.{coefficient_holder, rows_asks}
 use Rattle.slot_file.specs.Meaning.{AllYes}
@@ -10,10 +10,11 @@ use Rattle.walk.specs.Rows.{marks_to}
 use Rattle.walk.proofs.rows.read_rows.Given as goal
 
 abbrev pub invariant-loop-n : goal.invariant-loop-n
-invariant-loop-n l =
-    (l.n ≤ pollutant_count) × (length l.coefficients ≡ pollutant_count) × AllYes (rows_asks l.file l.g l.n) × (l.holder ≡ coefficient_holder l.file l.g l.n) × (l.link ≡ coefficient_slot l.file l.g l.n)
-    × (l.reached ≡ marks_to l.file l.g l.initial.reached l.n)
-    × ((m : ℕ) → m < l.n → get_or l.coefficients m no_coefficients ≡ (coefficients_read (slot_of l.file (coefficient_slot l.file l.g m))).coefficients)
-
-abbrev pub decreases-loop-n : goal.decreases-loop-n
-decreases-loop-n l = pollutant_count - l.n
+invariant-loop-n l = record {
+  room : length l.coefficients ≡ pollutant_count;
+  yes : AllYes (rows_asks l.file l.g l.n);
+  holder_is : l.holder ≡ coefficient_holder l.file l.g l.n;
+  link_is : l.link ≡ coefficient_slot l.file l.g l.n;
+  marks : l.reached ≡ marks_to l.file l.g l.initial.reached l.n;
+  read : (m : ℕ) → m < l.n → get_or l.coefficients m no_coefficients ≡ coefficients_of (slot_of l.file (coefficient_slot l.file l.g m));
+}
