@@ -37,7 +37,7 @@ POINTS = {
     ],
     "3": [r"\bwhile [^{]*<", NUMBER_LIST],
     "4": [r" as (u8|u16|u32|u64|usize|i16)\b", r"fn (wide\w*|long|signed)\("],
-    "5": [r"\brequires \{"],
+    "5": [r"\brequires (\w+ )?\{"],
     "6": [r"out: &mut \[u8; LISTING_ROOM\], (at|from)", r"totals: &mut \[u64\]", r"&mut \[bool; MOST_SLOTS\]"],
     "7": [r"summing: bool|wanted: bool|\bif (summing|wanted)\b"],
 }
