@@ -1,4 +1,4 @@
-// The numbers of an answer at the start of `out`; false, and nothing written, where it has room for fewer.
+// The numbers of an answer at the start of `out`; false, and nothing written, where it has room for fewer: a `bool`, as the C interface hands it over.
 ghost use Rattle.answer_numbers.specs.Numbers.{numbers_of, answer_size, store_numbers, store_size, group_numbers, group_size, locomotive_numbers, locomotive_size, Given};
 
 use super::numbers;
@@ -18,7 +18,9 @@ pub fn give_answer(a: Result<Answer, Refusal>, out: &mut [u64]) -> bool
     }
 }
 
-// Of what a store rule answers.
+// A function for each rule: `give_rule` is the one body, but it asks that the emissions are few, and no public function may ask anything.
+
+// Of what a store rule answers. Not by `map`: what its closure gives wants a proof by hand, and this none.
 pub fn give_store(store: Result<Emission, Refusal>, out: &mut [u64]) -> bool
     ensures { Given store_size (store_numbers store) out.old result out.new }
 {

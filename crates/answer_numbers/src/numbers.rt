@@ -11,7 +11,9 @@ pub(crate) const ANSWER_SIZE: usize = 5 + 2 * COUNT;
 
 const EMISSION_SIZE: usize = 5;
 
-// Numbers at the start of `out`; false, and nothing written, where it has room for fewer.
+// Numbers at the start of `out`; false, and nothing written, where it has room for fewer: a `bool`, as `giving` hands it to the C interface, here and below. The length is
+// tested and the range written by itself: std does not say what a slice ends as that was written through `get_mut`, and of `split_at_mut_checked`, where it does, the
+// search finds no proof.
 #[tactic(auto, unfolding(crate::specs::Numbers::into, sums::specs::Choice::if_then_else))]
 pub(crate) fn give(numbers: &[u64], out: &mut [u64]) -> bool
     ensures { Given (length numbers.now) numbers.now out.old result out.new }
@@ -23,7 +25,7 @@ pub(crate) fn give(numbers: &[u64], out: &mut [u64]) -> bool
     true
 }
 
-// So many numbers of a refusal in the same way: its number, its slot, and zeros.
+// So many numbers of a refusal in the same way: its number, its slot, and zeros. No answer has fewer than two numbers, which only its callers know.
 #[tactic(auto, unfolding(crate::specs::Numbers::into, sums::specs::Choice::if_then_else))]
 pub(crate) fn give_refusal(r: Refusal, size: usize, out: &mut [u64]) -> bool
     requires { 2 ≤ size }
@@ -65,7 +67,7 @@ fn emission_numbers(e: Emission) -> [u64; EMISSION_SIZE]
     ]
 }
 
-// Two zeros and the numbers of the emissions, likewise.
+// Two zeros and the numbers of the emissions, likewise: of so few that their count fits. What bounds it is how many a source gives, a constant at each call.
 #[tactic(auto, unfolding(crate::specs::Numbers::into, sums::specs::Choice::if_then_else))]
 fn give_emissions(es: &[Emission], out: &mut [u64]) -> bool
     requires { length es.now ≤ emission_count }
@@ -76,6 +78,7 @@ fn give_emissions(es: &[Emission], out: &mut [u64]) -> bool
     }
     out[0] = 0;
     out[1] = 0;
+    // Not by `chunks_exact_mut`, since std does not say what the slice ends as whose chunks were written.
     for (i, e) in es.iter().enumerate() {
         let at = 2 + EMISSION_SIZE * i;
         out[at..at + EMISSION_SIZE].copy_from_slice(&emission_numbers(*e));

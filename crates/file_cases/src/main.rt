@@ -12,17 +12,14 @@
 #![tactic(auto)]
 
 use byteorder::{ByteOrder, LE};
-use listing_lines::LISTING_ROOM;
 use std::io::{Read, Stdin, Stdout, Write};
 use sums::Refusal;
 
 fn show(out: &mut Stdout, file: &[u8]) {
-    let mut shown = [0; LISTING_ROOM];
-    let length = listing::print(file, &mut shown);
-    let _ = out.write_all(&shown[..length]);
+    let _ = out.write_all(listing::print(file).bytes());
 }
 
-// What was asked, the number and the slot of the refusal, or zeros of none.
+// What was asked, the number and the slot of the refusal, or zeros of none: an `Option`'s text, and so no `Display` of `Refusal`.
 fn told(out: &mut Stdout, asked: &str, refusal: Option<Refusal>) {
     let _ = match refusal {
         Some(r) => write!(out, "{asked} {} {}", u8::from(r.reason), r.slot),
@@ -38,6 +35,7 @@ fn check(out: &mut Stdout, file: &[u8]) {
 fn lend(out: &mut Stdout, file: &[u8], buffer: &mut [u8]) {
     let listed = listing::list(file, buffer);
     told(out, "listed", listed.err());
+    // "A refused listing has length 0".
     let written = listed.map_or(0, |listing| listing.written);
     let _ = writeln!(out, " {written}");
     let _ = out.write_all(buffer);
@@ -45,11 +43,13 @@ fn lend(out: &mut Stdout, file: &[u8], buffer: &mut [u8]) {
 }
 
 fn answer(out: &mut Stdout, file: &[u8], buffer: u16) {
+    // No buffer that is lent is so long, so the number says that none is.
     if buffer == u16::MAX {
         show(out, file);
         return;
     }
     check(out, file);
+    // More than the longest listing, so that a buffer can be lent that is longer than that.
     let mut room = [b'~'; 700];
     if let Some(lent) = room.get_mut(..usize::from(buffer)) {
         lend(out, file, lent);
@@ -60,8 +60,10 @@ fn answer(out: &mut Stdout, file: &[u8], buffer: u16) {
 fn next_case(input: &mut Stdin, out: &mut Stdout) -> Option<()> {
     let mut head = [0; 6];
     input.read_exact(&mut head).ok()?;
+    // 64 bytes more than the longest file, so that a file can be a slot too long, which question 1 refuses.
     let mut room = [0; 65_600];
-    let file = room.get_mut(..LE::read_u32(&head) as usize)?;
+    let length = usize::try_from(LE::read_u32(&head)).ok()?;
+    let file = room.get_mut(..length)?;
     input.read_exact(file).ok()?;
     answer(out, file, LE::read_u16(&head[4..]));
     Some(())

@@ -1,8 +1,8 @@
 // The head of a case: what is called, and what is lent.
 use byteorder::{ByteOrder, LE};
 
-// As long as the longest file.
-pub(crate) const ROOM: usize = 65_536;
+// A case's arguments stand at the front, and the rest is zero.
+pub(crate) type Room = [u8; slot_file::MOST_BYTES];
 
 #[derive(Clone, Copy, PartialEq, Eq)]
 pub(crate) enum Function {
@@ -17,7 +17,7 @@ pub(crate) enum Function {
 }
 
 impl From<u8> for Function {
-    // A group has 7, and every number that no other function has.
+    // A group has 7, and every number that no other function has: each case has its line, so this is no `TryFrom`.
     fn from(number: u8) -> Self {
         match number {
             1 => Self::Check,
@@ -41,12 +41,13 @@ pub(crate) struct Head {
     pub(crate) length: usize,
 }
 
-impl Head {
-    pub(crate) fn new(head: &[u8; 44]) -> Self {
+impl From<&[u8; 44]> for Head {
+    fn from(head: &[u8; 44]) -> Self {
         Self {
             function: Function::from(head[32]),
             numbers: usize::from(LE::read_u16(&head[34..])),
             bytes: usize::from(LE::read_u16(&head[36..])),
+            // 32 bits fit a length, which has no `From` of them.
             length: LE::read_u32(&head[40..]) as usize,
         }
     }

@@ -1,110 +1,135 @@
-// A call of each function, with the arguments of a case.
-use super::arguments::{Function, Head, ROOM};
-use byteorder::{ByteOrder, LE};
+// A call of each function, with the arguments of a case: a file, or numbers that are read one after the other from the room that they are in, in the order of the
+// parameters, as C hands them over.
+use super::arguments::{Function, Room};
+use byteorder::{LE, ReadBytesExt};
+use std::io::Read;
 use tezhebul::{files, rules};
 
-// What the head's function returns.
-pub(crate) fn call(head: Head, all: &[u8; ROOM], buffer: &mut [u8], out: &mut [u64]) -> u64 {
-    let Some(file) = all.get(..head.length) else {
-        return 0;
-    };
-    match head.function {
+// What the function returns. The room is long enough for the numbers of any, so it is never nothing.
+pub(crate) fn call(
+    function: Function,
+    file: &[u8],
+    all: &Room,
+    buffer: &mut [u8],
+    out: &mut [u64],
+) -> Option<u64> {
+    Some(match function {
         Function::Check => u64::from(files::tezhebul_check(file)),
         Function::Answer => u64::from(files::tezhebul_answer(file, out)),
+        // A length fits 64 bits, which have no `From` of one.
         Function::List => files::tezhebul_list(file, buffer, out) as u64,
-        Function::Handling => u64::from(handling(all, out)),
-        Function::Standing => u64::from(standing(all, out)),
-        Function::Aspiration => u64::from(aspiration(all, out)),
-        Function::Group => u64::from(group(all, out)),
-        Function::Locomotive => u64::from(locomotive(all, out)),
-    }
+        Function::Handling => u64::from(handling(all, out)?),
+        Function::Standing => u64::from(standing(all, out)?),
+        Function::Aspiration => u64::from(aspiration(all, out)?),
+        Function::Group => u64::from(group(all, out)?),
+        Function::Locomotive => u64::from(locomotive(all, out)?),
+    })
 }
 
-fn handling(all: &[u8; ROOM], out: &mut [u64]) -> bool {
-    rules::tezhebul_handling(
-        all[0],
-        LE::read_u16(&all[1..]),
-        all[3],
-        LE::read_u16(&all[4..]),
-        LE::read_u16(&all[6..]),
-        LE::read_u16(&all[8..]),
-        all[10],
-        LE::read_u32(&all[11..]),
-        all[15],
+fn handling(all: &Room, out: &mut [u64]) -> Option<bool> {
+    let mut a = &all[..];
+    Some(rules::tezhebul_handling(
+        a.read_u8().ok()?,
+        a.read_u16::<LE>().ok()?,
+        a.read_u8().ok()?,
+        a.read_u16::<LE>().ok()?,
+        a.read_u16::<LE>().ok()?,
+        a.read_u16::<LE>().ok()?,
+        a.read_u8().ok()?,
+        a.read_u32::<LE>().ok()?,
+        a.read_u8().ok()?,
         out,
-    )
+    ))
 }
 
-fn standing(all: &[u8; ROOM], out: &mut [u64]) -> bool {
-    rules::tezhebul_standing(
-        all[0],
-        LE::read_u16(&all[1..]),
-        all[3],
-        LE::read_u16(&all[4..]),
-        LE::read_u16(&all[6..]),
-        LE::read_u16(&all[8..]),
-        all[10],
-        LE::read_u32(&all[11..]),
-        LE::read_u16(&all[15..]),
+fn standing(all: &Room, out: &mut [u64]) -> Option<bool> {
+    let mut a = &all[..];
+    Some(rules::tezhebul_standing(
+        a.read_u8().ok()?,
+        a.read_u16::<LE>().ok()?,
+        a.read_u8().ok()?,
+        a.read_u16::<LE>().ok()?,
+        a.read_u16::<LE>().ok()?,
+        a.read_u16::<LE>().ok()?,
+        a.read_u8().ok()?,
+        a.read_u32::<LE>().ok()?,
+        a.read_u16::<LE>().ok()?,
         out,
-    )
+    ))
 }
 
-fn aspiration(all: &[u8; ROOM], out: &mut [u64]) -> bool {
-    rules::tezhebul_aspiration(
-        all[0],
-        LE::read_u16(&all[1..]),
-        LE::read_u32(&all[3..]),
-        LE::read_u32(&all[7..]),
-        LE::read_u16(&all[11..]),
-        LE::read_u16(&all[13..]),
+fn aspiration(all: &Room, out: &mut [u64]) -> Option<bool> {
+    let mut a = &all[..];
+    Some(rules::tezhebul_aspiration(
+        a.read_u8().ok()?,
+        a.read_u16::<LE>().ok()?,
+        a.read_u32::<LE>().ok()?,
+        a.read_u32::<LE>().ok()?,
+        a.read_u16::<LE>().ok()?,
+        a.read_u16::<LE>().ok()?,
         out,
-    )
+    ))
 }
 
-fn locomotive(all: &[u8; ROOM], out: &mut [u64]) -> bool {
-    rules::tezhebul_locomotive(
-        all[0],
-        LE::read_u16(&all[1..]),
-        LE::read_u16(&all[3..]),
-        LE::read_u16(&all[5..]),
-        LE::read_u16(&all[7..]),
-        LE::read_u16(&all[9..]),
-        LE::read_u16(&all[11..]),
-        all[13],
-        all[14],
+fn locomotive(all: &Room, out: &mut [u64]) -> Option<bool> {
+    let mut a = &all[..];
+    Some(rules::tezhebul_locomotive(
+        a.read_u8().ok()?,
+        a.read_u16::<LE>().ok()?,
+        a.read_u16::<LE>().ok()?,
+        a.read_u16::<LE>().ok()?,
+        a.read_u16::<LE>().ok()?,
+        a.read_u16::<LE>().ok()?,
+        a.read_u16::<LE>().ok()?,
+        a.read_u8().ok()?,
+        a.read_u8().ok()?,
         out,
-    )
+    ))
 }
 
 // The first n, or all.
 fn front<T>(all: &[T], n: u8) -> &[T] {
-    &all[..all.len().min(usize::from(n))]
+    all.get(..usize::from(n)).unwrap_or(all)
 }
 
 // The slices have room for more than is lent of them.
-fn group(all: &[u8; ROOM], out: &mut [u64]) -> bool {
+fn group(all: &Room, out: &mut [u64]) -> Option<bool> {
+    let mut a = &all[..];
+    let category = a.read_u8().ok()?;
+    let fuel = a.read_u8().ok()?;
+    let flags = a.read_u8().ok()?;
+    let vehicles = a.read_u16::<LE>().ok()?;
+    let leaving = a.read_u16::<LE>().ok()?;
+    let share = a.read_u8().ok()?;
+    let running = a.read_u8().ok()?;
+    let warming = a.read_u8().ok()?;
+    let idle = a.read_u32::<LE>().ok()?;
+    let timed = a.read_u32::<LE>().ok()?;
+    let mut lent = [0; 4];
     let mut distances = [0; 5];
+    let mut days = [0; 13];
     let mut temperatures = [0; 13];
     let mut coefficients = [0; 43];
-    LE::read_u32_into(&all[22..42], &mut distances);
-    LE::read_i16_into(&all[55..81], &mut temperatures);
-    LE::read_u32_into(&all[81..253], &mut coefficients);
-    rules::tezhebul_group(
-        all[0],
-        all[1],
-        all[2],
-        LE::read_u16(&all[3..]),
-        LE::read_u16(&all[5..]),
-        all[7],
-        all[8],
-        all[9],
-        LE::read_u32(&all[10..]),
-        LE::read_u32(&all[14..]),
-        front(&distances, all[18]),
-        front(&all[42..55], all[19]),
-        front(&temperatures, all[20]),
-        front(&coefficients, all[21]),
+    a.read_exact(&mut lent).ok()?;
+    a.read_u32_into::<LE>(&mut distances).ok()?;
+    a.read_exact(&mut days).ok()?;
+    a.read_i16_into::<LE>(&mut temperatures).ok()?;
+    a.read_u32_into::<LE>(&mut coefficients).ok()?;
+    Some(rules::tezhebul_group(
+        category,
+        fuel,
+        flags,
+        vehicles,
+        leaving,
+        share,
+        running,
+        warming,
+        idle,
+        timed,
+        front(&distances, lent[0]),
+        front(&days, lent[1]),
+        front(&temperatures, lent[2]),
+        front(&coefficients, lent[3]),
         out,
-    )
+    ))
 }

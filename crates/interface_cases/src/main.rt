@@ -21,7 +21,7 @@
 mod arguments;
 mod calls;
 
-use arguments::{Function, Head, ROOM};
+use arguments::{Function, Head, Room};
 use std::io::{Read, Stdin, Stdout, Write};
 
 // The first 32 bytes of a case.
@@ -29,38 +29,44 @@ fn label(out: &mut Stdout, start: &[u8; 44]) {
     let _ = out.write_all(&start[..32]);
 }
 
-// Lends the front of both memories to the call, and prints them whole after it. What can't be written is left out, and the rest is printed all the same.
-fn run(out: &mut Stdout, head: Head, all: &[u8; ROOM]) {
-    let mut numbers = [7_777; 40];
-    let mut bytes = [b'~'; 600];
-    if head.numbers <= numbers.len() && head.bytes <= bytes.len() {
-        let returned = calls::call(
-            head,
-            all,
-            &mut bytes[..head.bytes],
-            &mut numbers[..head.numbers],
-        );
-        let _ = write!(out, " {returned}");
-    }
-    for n in &numbers {
+// Both memories whole. What can't be written is left out, and the rest is printed all the same.
+fn show(out: &mut Stdout, function: Function, numbers: &[u64], bytes: &[u8]) {
+    for n in numbers {
         let _ = write!(out, " {n}");
     }
     let _ = writeln!(out);
-    if head.function == Function::List {
-        let _ = out.write_all(&bytes);
+    if function == Function::List {
+        let _ = out.write_all(bytes);
         let _ = writeln!(out);
     }
+}
+
+// What the call returns that is lent the front of both memories; nothing, where one of them has not as much.
+fn lend(head: Head, file: &[u8], all: &Room, numbers: &mut [u64], bytes: &mut [u8]) -> Option<u64> {
+    let buffer = bytes.get_mut(..head.bytes)?;
+    let out = numbers.get_mut(..head.numbers)?;
+    calls::call(head.function, file, all, buffer, out)
+}
+
+// Calls, and prints what is returned and what both memories are after it.
+fn run(out: &mut Stdout, head: Head, file: &[u8], all: &Room) {
+    let mut numbers = [7_777; 40];
+    let mut bytes = [b'~'; 600];
+    if let Some(returned) = lend(head, file, all, &mut numbers, &mut bytes) {
+        let _ = write!(out, " {returned}");
+    }
+    show(out, head.function, &numbers, &bytes);
 }
 
 // Runs the next case, if all of it is there.
 fn next_case(input: &mut Stdin, out: &mut Stdout) -> Option<()> {
     let mut start = [0; 44];
     input.read_exact(&mut start).ok()?;
-    let head = Head::new(&start);
-    let mut all = [0; ROOM];
+    let head = Head::from(&start);
+    let mut all = [0; slot_file::MOST_BYTES];
     input.read_exact(all.get_mut(..head.length)?).ok()?;
     label(out, &start);
-    run(out, head, &all);
+    run(out, head, &all[..head.length], &all);
     Some(())
 }
 

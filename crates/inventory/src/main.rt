@@ -7,13 +7,12 @@ ghost use Rattle.slot_file.specs.Figures.{answer};
 ghost use Rattle.slot_file.specs.Listing.{printed};
 ghost use Rattle.inventory.specs.Input.{IsTaken};
 
-use listing_lines::LISTING_ROOM;
 use std::env::{Env, FillError};
 use std::io;
 use std::io::{Read, Write};
 
 // One byte more than the longest inventory file.
-const ROOM: usize = slots::SLOT_SIZE * slot_file::MOST_SLOTS + 1;
+const ROOM: usize = slot_file::MOST_BYTES + 1;
 
 fn is_argument_given(rt: &HostRuntime) -> bool {
     let mut start = [0; 1];
@@ -33,9 +32,8 @@ fn read_file<'a, R: Read>(input: &mut R, room: &'a mut [u8]) -> io::Result<&'a [
 fn show<W: Write>(out: &mut W, file: &[u8]) -> io::Result<()>
     ensures { OnOk result (Appends (W.contents out.old) (W.contents out.new) (printed (answer file.now))) }
 {
-    let mut text = [0; LISTING_ROOM];
-    let length = listing::print(file, &mut text);
-    out.write_all(&text[..length])
+    let page = listing::print(file);
+    out.write_all(page.bytes())
 }
 
 // The file comes by standard input: an argument is not read, and standard error says so. It says too where the listing can't be written whole.

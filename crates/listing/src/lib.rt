@@ -1,11 +1,11 @@
 // The answer as bytes: the listing in a lent buffer, and what the program prints.
 #![tactic(auto)]
 
-ghost use Rattle.std.specs.Prelude.{◌≡◌, ◌++◌, length, take, drop, ◌≤◌, Ok};
+ghost use Rattle.std.specs.Prelude.{◌≡◌, Ok};
 ghost use Rattle.slot_file.specs.Figures.{answer};
 ghost use Rattle.slot_file.specs.Listing.{printed, listed};
 
-use listing_lines::LISTING_ROOM;
+use listing_lines::Page;
 use slot_file::Answer;
 pub use slot_file::Listing;
 use sums::{Reason, Refusal};
@@ -38,10 +38,9 @@ pub fn list(file: &[u8], buffer: &mut [u8]) -> Result<Listing, Refusal>
     list_answer(walk::answer(file)?, buffer)
 }
 
-// What the program prints of a file: its listing, or its refusal line. The second promise follows from the first; whoever writes the bytes out wants it.
-pub fn print(file: &[u8], out: &mut [u8; LISTING_ROOM]) -> usize
-    ensures value { (result ≡ length (printed (answer file.now))) × (out.new ≡ printed (answer file.now) ++ drop result out.old) }
-    ensures upper_bound { (result ≤ length out.new) × (result ≡ length (take result out.new)) }
+// What the program prints of a file: its listing, or its refusal line.
+pub fn print(file: &[u8]) -> Page
+    ensures { result ≡ printed (answer file.now) }
 {
-    listing_lines::put_printed(out, walk::answer(file))
+    listing_lines::printed_page(walk::answer(file))
 }

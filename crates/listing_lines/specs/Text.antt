@@ -1,14 +1,8 @@
--- Bytes written into an array, one after the other: what the functions of this crate promise. The bytes themselves are slot_file's definitions, which are all
--- that the promises of the crates above cite.
-use Rattle.std.specs.Prelude.{ℕ, ◌+◌, ◌*◌, ◌≡◌, List, ◌++◌, length}
-use Rattle.std.proofs.lemmas.List.Edits.{sets}
+-- Room for a listing, and how much of it a part takes at most: what the functions of this crate ask and promise of it. The bytes themselves are slot_file's
+-- definitions, which are all that the promises of the crates above cite.
+use Rattle.std.specs.Prelude.{ℕ, ◌*◌, List, ◌++◌}
 use Rattle.slot_file.specs.Codes.{code_count}
 use Rattle.slot_file.specs.Listing.{text, decimal}
-
--- the bytes are stored from a place on, and nothing else is changed; r is the place after them
-pub record Added (before : List ℕ) (at : ℕ) (after : List ℕ) (r : ℕ) (bytes : List ℕ) : Type 0 where
-  pub stored : after ≡ sets before at bytes
-  pub next : r ≡ at + length bytes
 
 -- room for any listing, which a code's line takes the most of: the longest listing has 532 bytes
 abbrev pub listing_room : ℕ

@@ -4,7 +4,7 @@
 pub mod lines;
 mod page;
 
-pub use lines::{listing_page, put_listing, put_printed};
+pub use lines::{listing_page, printed_page};
 pub use page::Page;
 use slot_file::COUNT;
 

@@ -2,12 +2,13 @@
 ghost use Rattle.std.specs.Prelude.{◌≡◌, ◌+◌, ◌*◌, ◌≤◌, ◌++◌, length};
 ghost use Rattle.slot_file.specs.Codes.{codes, code_count};
 ghost use Rattle.slot_file.specs.Listing.{line, lines, listing, refusal_line, printed};
-ghost use Rattle.listing_lines.specs.Text.{listing_room, Added, pair, pair_most, line_most};
+ghost use Rattle.listing_lines.specs.Text.{listing_room, pair, pair_most, line_most};
 
-use super::{LISTING_ROOM, Page};
+use super::Page;
 use slot_file::{Answer, COUNT};
 use sums::Refusal;
 
+// Each asks for the room of what it puts, as in page.rt.
 impl Page {
     // Code, tonnes, grams per second. There is room for one line more: a part does not count on the parts before it to be short.
     #[tactic(auto, unfolding(slot_file::specs::Listing::line, slot_file::specs::Listing::text))]
@@ -25,13 +26,18 @@ impl Page {
     }
 
     // A line for each code.
+    #[tactic(auto, unfolding(slot_file::specs::Listing::lines))]
     fn push_lines(&mut self, annual: [u64; COUNT], peak: [u64; COUNT])
         requires { length self.old + (code_count + 1) * line_most ≤ listing_room }
         ensures text { self.new ≡ self.old ++ lines codes annual peak }
         ensures short { length self.new ≤ length self.old + code_count * line_most }
     {
-        for i in 0..COUNT {
-            self.push_line(slot_file::code_at(i), annual[i], peak[i]);
+        for ((code, annual), peak) in slot_file::listing_codes()
+            .iter()
+            .zip(annual.iter())
+            .zip(peak.iter())
+        {
+            self.push_line(*code, *annual, *peak);
         }
     }
 
@@ -75,20 +81,13 @@ fn refusal_page(r: Refusal) -> Page
     page
 }
 
-// The listing, from byte 0 on, and its length; the other bytes stay as they are.
-pub fn put_listing(out: &mut [u8; LISTING_ROOM], a: Answer) -> usize
-    ensures { Added out.old 0 out.new result (listing a) × (result ≤ listing_room) }
-{
-    listing_page(a).copy_to(out)
-}
-
-// The listing, or the refusal line, in the same way.
+// The listing, or the refusal line.
 #[tactic(auto, unfolding(slot_file::specs::Listing::printed))]
-pub fn put_printed(out: &mut [u8; LISTING_ROOM], a: Result<Answer, Refusal>) -> usize
-    ensures { Added out.old 0 out.new result (printed a) × (result ≤ listing_room) }
+pub fn printed_page(a: Result<Answer, Refusal>) -> Page
+    ensures { result ≡ printed a }
 {
     match a {
-        Ok(a) => put_listing(out, a),
-        Err(r) => refusal_page(r).copy_to(out),
+        Ok(a) => listing_page(a),
+        Err(r) => refusal_page(r),
     }
 }

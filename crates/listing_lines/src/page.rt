@@ -1,11 +1,12 @@
 // The bytes that are written of a listing, with room for any; and how text and numbers are added at their end.
 ghost use Rattle.std.specs.Prelude.{◌≡◌, ◌+◌, ◌^◌, ◌<◌, ◌≤◌, List, ℕ, [], ◌∷◌, ◌++◌, length, take};
 ghost use Rattle.slot_file.specs.Listing.{decimal, padded, fixed};
-ghost use Rattle.listing_lines.specs.Text.{listing_room, Added};
+ghost use Rattle.listing_lines.specs.Text.{listing_room};
 
 use super::LISTING_ROOM;
 use std::marker::Model;
 
+// Not an `ArrayVec`: it takes a text only by a `Result` with a case that never is, and to clauses it is a record about its items, where a page is its bytes.
 #[derive(Drop)]
 pub struct Page {
     room: [u8; LISTING_ROOM],
@@ -21,18 +22,19 @@ impl Model for Page {
     ghost invariant = { λ p. p.length ≤ listing_room };
 }
 
-// A table: `pow` would multiply anew for each digit.
-const POWERS: [u64; 8] = [1, 10, 100, 1_000, 10_000, 100_000, 1_000_000, 10_000_000];
-
+// `pow` runs no more instructions than a table: where a count of digits is written out, the compiler works both out. n is a literal where a line is written, and below 8, so
+// `as` loses nothing.
 fn power(n: usize) -> u64
     requires { n < 8 }
     ensures { (result ≡ 10 ^ n) × (0 < result) }
 {
-    POWERS[n]
+    10_u64.pow(n as u32)
 }
 
+// What is put at the end asks for room in its contract, each for another count, so no one type would hold it. A digit is below 10 and fits a byte, where `try_from` would
+// have a case that never is: `as` turns it.
 impl Page {
-    pub(crate) fn new() -> Self
+    pub fn new() -> Self
         ensures { result ≡ [] }
     {
         Page {
@@ -46,15 +48,6 @@ impl Page {
         ensures within { length result.now ≤ listing_room }
     {
         &self.room[..self.length]
-    }
-
-    // Copies the bytes to the front of an array, and gives their count; the other bytes of the array stay as they are.
-    pub(crate) fn copy_to(&self, out: &mut [u8; LISTING_ROOM]) -> usize
-        ensures { Added out.old 0 out.new result self.now × (result ≤ listing_room) }
-    {
-        let bytes = self.bytes();
-        out[..bytes.len()].copy_from_slice(bytes);
-        bytes.len()
     }
 
     pub(crate) fn push_byte(&mut self, b: u8)
@@ -90,15 +83,17 @@ impl Page {
         }
     }
 
-    // The last n digits of x, zeros in front too.
+    // The last n digits of x, zeros in front too. Not by `push_byte`: that the page grows only once spares two words of memory for each digit.
     pub(crate) fn push_padded(&mut self, x: u64, n: usize)
         requires { (n < 9) × (length self.old + n ≤ listing_room) }
         ensures text { self.new ≡ self.old ++ padded n x }
         ensures count { length self.new ≡ length self.old + n }
     {
+        let end = self.length + n;
         for left in (0..n).rev() {
-            self.push_byte(b'0' + (x / power(left) % 10) as u8);
+            self.room[end - 1 - left] = b'0' + (x / power(left) % 10) as u8;
         }
+        self.length = end;
     }
 
     // x units of the last of n decimals.

@@ -6,7 +6,7 @@ ghost use Rattle.locomotive_fields.specs.Fields.{shares_in_range, locomotive_in_
 pub const MODES: usize = 5;
 
 // The model is the type by its number in table 21, a share is in thousandths of the time, hours are a year's, old is 1 over two years of age and else 0,
-// the zone is 1 south of 44 degrees, 3 north of 60 degrees and else 2.
+// the zone is 1 south of 44 degrees, 3 north of 60 degrees and else 2. They are numbers and no enums: the rule takes any value and refuses it itself, by 9.
 #[derive(Clone, Copy)]
 pub struct Locomotive {
     pub model: u8,
@@ -23,7 +23,7 @@ fn shares_in_range(shares: [u16; MODES]) -> bool
     shares.iter().fold(true, |ok, share| ok & (*share <= 1_000))
 }
 
-// Two comparisons for each range, as the definition lists them: by `contains` it is no cheaper, and its proof is longer.
+// Two comparisons for each range, as the definition lists them: by `contains` its proof is longer, and it runs as many instructions.
 pub fn locomotive_in_range(l: Locomotive) -> bool
     ensures { result ≡ locomotive_in_range l }
 {

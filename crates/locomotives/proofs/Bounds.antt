@@ -24,7 +24,7 @@ greatest_most l p (suc k) =
     (both (λ (x : ℕ). x ≤ 15210) (leb a (hourly_parts l p k)) (hourly_scaled l p k).most (greatest_most l p k))
 
 module _ (l : Locomotive) (h : locomotive_in_range l ≡ true) where
-  pub hour_most : hour_parts l ≤ 8784 * 12 * 12 * 7
+  hour_most : hour_parts l ≤ 8784 * 12 * 12 * 7
   unfolding hour_parts
   hour_most = (ranged l h).hours ⊗ (age_scaled l.old).most ⊗ (zone_scaled l.zone).most ⊗ le_refl 7
 

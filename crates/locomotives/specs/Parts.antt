@@ -6,7 +6,7 @@ use Rattle.sums.specs.Figures.{tonne_parts, gram_parts, annual_of, peak_of}
 use Rattle.sums.specs.declared.answer.Emission.{Emission}
 use Rattle.locomotive_fields.specs.Fields.{mode_count}
 use Rattle.locomotive_fields.specs.declared.fields.Locomotive.{Locomotive}
-use Rattle.locomotives.specs.Rules.{locomotive_codes, substance_count, table21, place_in, hourly_at, age_factor, zone_factor}
+use Rattle.locomotives.specs.Rules.{substance_count, table21, place_in, hourly_at, age_factor, zone_factor}
 use Rattle.locomotives.specs.declared.rule.Modes.{Modes}
 
 -- kilograms per hour, in thousandths
@@ -52,6 +52,6 @@ year_units = tonne_parts / 1000000000000
 abbrev pub peak_units : ℕ
 peak_units = gram_parts / 3600
 
--- what is given of the substance at a place
-abbrev pub emission_parts : ℕ → Modes → ℕ → Emission
-emission_parts p m hours = record { code = get_or locomotive_codes p 0; annual = annual_of (m.mean * hours * year_units); peak = peak_of (m.greatest * peak_units) }
+-- what is given of a substance
+abbrev pub emission_parts : ℕ → ℕ → ℕ → Emission
+emission_parts code year peak = record { code = code; annual = annual_of (year * year_units); peak = peak_of peak }

@@ -2,6 +2,7 @@
 #![tactic(auto)]
 
 pub mod rule;
+mod sound;
 mod table;
 
 pub use rule::{SUBSTANCES, locomotive_emissions};

@@ -1,11 +1,11 @@
 // What a locomotive gives of each substance.
-ghost use Rattle.std.specs.Prelude.{◌≡◌, true, ◌+◌, ◌<◌, ◌≤◌};
-ghost use Rattle.locomotive_fields.specs.Fields.{mode_count, locomotive_in_range};
-ghost use Rattle.locomotives.specs.Rules.{substance_count, locomotive_emissions, locomotive_answer};
-ghost use Rattle.locomotives.specs.Parts.{hourly_of, all_modes, with_rate, hour_parts, emission_parts};
+ghost use Rattle.std.specs.Prelude.{◌≡◌, ◌≤◌};
+ghost use Rattle.locomotive_fields.specs.Fields.{mode_count};
+ghost use Rattle.locomotives.specs.Rules.{locomotive_emissions, locomotive_answer};
+ghost use Rattle.locomotives.specs.Parts.{all_modes, with_rate, hour_parts, emission_parts};
 
+use super::sound::Sound;
 use super::table;
-use super::table::Rates;
 use locomotive_fields::{Locomotive, MODES};
 use sums::{AnnualSum, Emission, PeakSum, Reason, Refusal};
 
@@ -21,90 +21,98 @@ pub(crate) struct Modes {
     pub(crate) greatest: u64,
 }
 
-// One mode more, that has a share: its rate of one substance.
-fn with_rate(m: Modes, rate: u64, share: u16) -> Modes
-    requires { (m.mean ≤ 1000000000000) × (rate ≤ 15210) }
+// One mode more, that has a share: its rate of one substance. It is owed a bound of the sum, since no type says how many modes that is of.
+#[tactic(auto, using(crate::proofs::Modes::larger))]
+fn with_rate(m: Modes, rate: u32, share: u16) -> Modes
+    requires { m.mean ≤ 1000000000000 }
     ensures { result ≡ with_rate m rate share }
 {
     Modes {
-        mean: m.mean + rate * u64::from(share),
-        greatest: m.greatest.max(rate),
+        mean: m.mean + u64::from(rate) * u64::from(share),
+        greatest: m.greatest.max(u64::from(rate)),
     }
 }
 
-// One mode more of each substance, three calls, since a closure over the modes and their rates by place is no plainer. Without a share it adds
-// nothing.
-#[tactic(auto, using(crate::proofs::Modes::without_share))]
-fn with_mode(l: Locomotive, rates: Rates, m: [Modes; SUBSTANCES], k: usize) -> [Modes; SUBSTANCES]
-    requires { (locomotive_in_range l ≡ true) × (rates ≡ hourly_of l.model) × (m ≡ all_modes l k) × (k < mode_count) }
-    ensures { result ≡ all_modes l (k + 1) }
-{
-    let share = l.shares[k];
-    if share == 0 {
-        return m;
-    }
-    [
-        with_rate(m[0], rates[0][k], share),
-        with_rate(m[1], rates[1][k], share),
-        with_rate(m[2], rates[2][k], share),
-    ]
-}
-
-fn modes_of(l: Locomotive) -> [Modes; SUBSTANCES]
-    requires { locomotive_in_range l ≡ true }
-    ensures { result ≡ all_modes l mode_count }
-{
-    let rates = table::rates(l.model);
-    let none = Modes {
-        mean: 0,
-        greatest: 0,
-    };
-    let mut m = [none; SUBSTANCES];
-    for k in 0..MODES {
-        // A name of its own, since the borrow checker does not cover an array that a call's result is laid in.
-        let more = with_mode(l, rates, m, k);
-        m = more;
-    }
-    m
-}
-
-// The hours by age and zone, 0.7 of them, in thousandths of an hour.
-fn hours_of(l: Locomotive) -> u64
-    requires { locomotive_in_range l ≡ true }
-    ensures { result ≡ hour_parts l }
-{
-    u64::from(l.hours) * table::age_factor(l.old) * table::zone_factor(l.zone) * 7
-}
-
-// Exact units in a 1,000,000,000,000th of a tonne, and in a 3,600th of a gram per second: 20,000,000 and 200,000,000,000.
+// Exact units in a 1,000,000,000,000th of a tonne, and in a 3,600th of a gram per second: 20,000,000 and 200,000,000,000. In a constant only `as` narrows.
 const YEAR_UNITS: u32 = (AnnualSum::DENOMINATOR / 1_000_000) as u32;
 
 const PEAK_UNITS: u64 = PeakSum::DENOMINATOR / 36 * 100_000;
 
-// Millionths of a kilogram per hour over thousandths of an hour are 1,000,000,000,000ths of a tonne; thousandths of a kilogram per hour are 3,600ths of a gram
-// per second.
-fn emission_of(place: usize, m: Modes, hours: u64) -> Emission
-    requires { (place < substance_count) × (m.mean ≤ 76050000) × (m.greatest ≤ 15210) × (hours ≤ 8854272) }
-    ensures { result ≡ emission_parts place m hours }
+// Millionths of a kilogram per hour times thousandths of an hour are 1,000,000,000,000ths of a tonne, the year's; thousandths of a kilogram per hour are 3,600ths of a gram
+// per second, and the peak comes in exact units.
+#[tactic(auto, using(sums::proofs::Wrapping::words_times))]
+fn emission_of(code: u16, year: u64, peak: u64) -> Emission
+    ensures { result ≡ emission_parts code year peak }
 {
     Emission {
-        code: CODES[place],
-        annual: AnnualSum::of(m.mean * hours).times(YEAR_UNITS),
-        peak: PeakSum::of(m.greatest * PEAK_UNITS),
+        code,
+        annual: AnnualSum::of(year).times(YEAR_UNITS),
+        peak: PeakSum::of(peak),
     }
 }
 
-fn emissions_of(l: Locomotive) -> [Emission; SUBSTANCES]
-    requires { locomotive_in_range l ≡ true }
-    ensures { result ≡ locomotive_emissions l }
-{
-    let hours = hours_of(l);
-    let modes = modes_of(l);
-    [
-        emission_of(0, modes[0], hours),
-        emission_of(1, modes[1], hours),
-        emission_of(2, modes[2], hours),
-    ]
+impl Sound {
+    // The hours by age and zone, 0.7 of them, in thousandths of an hour.
+    #[tactic(auto, unfolding(crate::specs::Parts::hour_parts))]
+    fn hours(&self) -> u64
+        ensures { (result ≡ hour_parts self.now.locomotive) × (result ≤ 66059280) }
+    {
+        let l = &self.locomotive;
+        u64::from(l.hours) * table::age_factor(l.old) * table::zone_factor(l.zone) * 7
+    }
+
+    // A mode without a share adds nothing. The three substances are written out, here and in `emissions`: a loop over them ran 65 to 100 instructions more for each
+    // locomotive.
+    #[tactic(auto, using(crate::proofs::Modes::room), unfolding(crate::specs::Parts::all_modes, crate::specs::Parts::mean_parts, crate::specs::Parts::greatest_parts, sums::specs::Choice::sum_to, sums::specs::Choice::list_to))]
+    fn modes(&self) -> [Modes; SUBSTANCES]
+        ensures { result ≡ all_modes self.now.locomotive mode_count }
+    {
+        let rates = self.rates();
+        let none = Modes {
+            mean: 0,
+            greatest: 0,
+        };
+        let mut m = [none; SUBSTANCES];
+        // By the mode's number: the rates stand by substance.
+        for k in 0..MODES {
+            let share = self.locomotive.shares[k];
+            if share != 0 {
+                // A name of its own, since the borrow checker does not cover an array that a call's result is laid in.
+                let more = [
+                    with_rate(m[0], rates[0][k], share),
+                    with_rate(m[1], rates[1][k], share),
+                    with_rate(m[2], rates[2][k], share),
+                ];
+                m = more;
+            }
+        }
+        m
+    }
+
+    #[tactic(auto, using(crate::proofs::Bounds::greatest_most, crate::proofs::Bounds::mean_most, crate::proofs::Modes::emission_summed), unfolding(crate::specs::Rules::locomotive_emissions, crate::specs::Parts::all_modes, sums::specs::Choice::list_to))]
+    fn emissions(&self) -> [Emission; SUBSTANCES]
+        ensures { result ≡ locomotive_emissions self.now.locomotive }
+    {
+        let hours = self.hours();
+        let modes = self.modes();
+        [
+            emission_of(
+                CODES[0],
+                modes[0].mean * hours,
+                modes[0].greatest * PEAK_UNITS,
+            ),
+            emission_of(
+                CODES[1],
+                modes[1].mean * hours,
+                modes[1].greatest * PEAK_UNITS,
+            ),
+            emission_of(
+                CODES[2],
+                modes[2].mean * hours,
+                modes[2].greatest * PEAK_UNITS,
+            ),
+        ]
+    }
 }
 
 #[tactic(auto, unfolding(crate::specs::Rules::locomotive_answer, sums::specs::Choice::if_then_else))]
@@ -117,5 +125,6 @@ pub fn locomotive_emissions(l: Locomotive) -> Result<[Emission; SUBSTANCES], Ref
     if !locomotive_fields::shares_add_up(l) {
         return Err(Refusal::of_source(Reason::Shares));
     }
-    Ok(emissions_of(l))
+    let sound = Sound { locomotive: l };
+    Ok(sound.emissions())
 }

@@ -5,10 +5,11 @@ ghost use Rattle.locomotives.specs.Rules.{age_factor, zone_factor};
 ghost use Rattle.locomotives.specs.Parts.{hourly_of};
 
 use super::rule::SUBSTANCES;
+use super::sound::Sound;
 use locomotive_fields::MODES;
 
 // A model's rates in thousandths of a kilogram per hour: of CO, NO2 and soot, each in the five modes.
-pub(crate) type Rates = [[u64; MODES]; SUBSTANCES];
+pub(crate) type Rates = [[u32; MODES]; SUBSTANCES];
 
 // Table 21.
 const TGM6: Rates = [
@@ -35,36 +36,40 @@ const TU4: Rates = [
     [4, 20, 50, 60, 70],
 ];
 
-// A model's rates. The compiler keeps what a `match` chooses from in memory; a table indexed by the model would be built anew for each locomotive. No other model is
-// in range.
-pub(crate) fn rates(model: u8) -> Rates
-    requires { (1 ≤ model) × (model ≤ 4) }
-    ensures { result ≡ hourly_of model }
-{
-    match model {
-        1 => TGM6,
-        2 => TGM4,
-        3 => TGM3,
-        4 => TU4,
-        _ => [[0; MODES]; SUBSTANCES],
+impl Sound {
+    // The model's rates. The compiler keeps what a `match` chooses from in memory; a table indexed by the model would be built anew for each locomotive. No other
+    // model is in range. As a function of any model it would run some 25 instructions more.
+    #[tactic(auto, using(crate::proofs::Ranges::ranged), unfolding(crate::specs::Parts::hourly_of, sums::specs::Choice::list_to, sums::specs::Fraction::parts_of))]
+    pub(crate) fn rates(&self) -> Rates
+        ensures { result ≡ hourly_of self.now.locomotive.model }
+    {
+        match self.locomotive.model {
+            1 => TGM6,
+            2 => TGM4,
+            3 => TGM3,
+            4 => TU4,
+            _ => [[0; MODES]; SUBSTANCES],
+        }
     }
 }
 
 // Tenths.
+#[tactic(auto, unfolding(crate::specs::Rules::age_factor, sums::specs::Choice::if_then_else, sums::specs::Fraction::parts_of))]
 pub(crate) fn age_factor(old: u8) -> u64
     ensures { (result ≡ parts_of 10 (age_factor old)) × (result ≤ 12) }
 {
     if old == 1 { 12 } else { 10 }
 }
 
-// Tenths.
+// Tenths, as the definition has them out of range too. A `match`: three zones are no table of the papers.
+#[tactic(auto, unfolding(sums::specs::Fraction::parts_of))]
 pub(crate) fn zone_factor(zone: u8) -> u64
-    requires { (1 ≤ zone) × (zone ≤ 3) }
     ensures { (result ≡ parts_of 10 (zone_factor zone)) × (result ≤ 12) }
 {
     match zone {
-        1 => 12,
+        0..=1 => 12,
         2 => 10,
-        _ => 8,
+        3 => 8,
+        _ => 0,
     }
 }

@@ -2,12 +2,14 @@
 ghost use Rattle.std.specs.Prelude.{◌+◌, ◌≤◌};
 
 use super::fields::Record;
-use super::totals::Totals;
+use super::totals::ByPlace;
 use super::{fields, printing, totals};
 use byteorder::{ByteOrder, LE};
+use locomotives::SUBSTANCES;
 use std::io::Stdout;
 use sums::words::Words;
 use sums::{Annual, Emission, Peak, Refusal, Sum, Unit};
+use vehicles::EMISSIONS;
 
 #[derive(Clone, Copy)]
 enum Kind {
@@ -20,7 +22,7 @@ enum Kind {
 }
 
 impl From<u8> for Kind {
-    // Sums have 5, and every number that no other kind has.
+    // Sums have 5, and every number that no other kind has: each record has its lines, so this is no `TryFrom`.
     fn from(number: u8) -> Self {
         match number {
             1 => Self::Handling,
@@ -34,59 +36,52 @@ impl From<u8> for Kind {
 }
 
 // Prints the case's lines, and adds to the totals what it gives so often as it says.
-pub(crate) fn run(out: &mut Stdout, r: &Record, totals: &mut Totals) {
+pub(crate) fn run(out: &mut Stdout, r: &Record, totals: &mut ByPlace) {
     printing::label(out, r);
     match Kind::from(r[32]) {
-        Kind::Handling => store(
-            out,
-            r,
-            totals,
-            stores::handling_emission(fields::handling(r)),
-        ),
-        Kind::Standing => store(
-            out,
-            r,
-            totals,
-            stores::standing_emission(fields::standing(r)),
-        ),
-        Kind::Aspiration => store(
-            out,
-            r,
-            totals,
-            stores::aspiration_emission(fields::aspiration(r)),
-        ),
-        Kind::Group => group(out, r, totals),
+        Kind::Handling => source(out, r, totals, handling(r)),
+        Kind::Standing => source(out, r, totals, standing(r)),
+        Kind::Aspiration => source(out, r, totals, aspiration(r)),
+        Kind::Group => source(out, r, totals, group(r)),
         Kind::Sums => both_sums(out, r),
-        Kind::Locomotive => locomotive(out, r, totals),
+        Kind::Locomotive => source(out, r, totals, locomotive(r)),
     }
 }
 
-fn store(out: &mut Stdout, r: &Record, totals: &mut Totals, answer: Result<Emission, Refusal>) {
-    match answer {
-        Ok(emission) => source(out, r, totals, Ok([emission])),
-        Err(refusal) => source::<1>(out, r, totals, Err(refusal)),
-    }
+// What a store rule answers, as one emission of one.
+fn one(answer: Result<Emission, Refusal>) -> Result<[Emission; 1], Refusal> {
+    answer.map(|emission| [emission])
 }
 
-fn group(out: &mut Stdout, r: &Record, totals: &mut Totals) {
-    let answer = vehicles::group_emissions(
+fn handling(r: &Record) -> Result<[Emission; 1], Refusal> {
+    one(stores::handling_emission(fields::handling(r)))
+}
+
+fn standing(r: &Record) -> Result<[Emission; 1], Refusal> {
+    one(stores::standing_emission(fields::standing(r)))
+}
+
+fn aspiration(r: &Record) -> Result<[Emission; 1], Refusal> {
+    one(stores::aspiration_emission(fields::aspiration(r)))
+}
+
+fn group(r: &Record) -> Result<[Emission; EMISSIONS], Refusal> {
+    vehicles::group_emissions(
         fields::group(r),
         fields::temperatures(r),
         fields::coefficients(r),
-    );
-    source(out, r, totals, answer);
+    )
 }
 
-fn locomotive(out: &mut Stdout, r: &Record, totals: &mut Totals) {
-    let answer = locomotives::locomotive_emissions(fields::locomotive(r));
-    source(out, r, totals, answer);
+fn locomotive(r: &Record) -> Result<[Emission; SUBSTANCES], Refusal> {
+    locomotives::locomotive_emissions(fields::locomotive(r))
 }
 
-// A refused source gives nothing to each of its codes.
+// A refused source gives nothing, in as many places as an accepted one has.
 fn source<const N: usize>(
     out: &mut Stdout,
     r: &Record,
-    totals: &mut Totals,
+    totals: &mut ByPlace,
     answer: Result<[Emission; N], Refusal>,
 ) {
     let (refusal, emissions) = match answer {
@@ -103,7 +98,7 @@ fn source<const N: usize>(
 }
 
 // Each emission so many times over: a line, and an addend of the total in its place.
-fn add(out: &mut Stdout, totals: &mut Totals, emissions: &[Emission], times: u16) {
+fn add(out: &mut Stdout, totals: &mut ByPlace, emissions: &[Emission], times: u16) {
     for (total, e) in totals.iter_mut().zip(emissions) {
         let sum = totals::repeated(*e, times);
         printing::sums(out, &sum);
@@ -111,7 +106,7 @@ fn add(out: &mut Stdout, totals: &mut Totals, emissions: &[Emission], times: u16
     }
 }
 
-// The words of a sum, the low one first.
+// The words of a sum at a literal place of the record, the low one first.
 fn words_at(r: &Record, at: usize) -> Words
     requires { at + 16 ≤ 320 }
 {

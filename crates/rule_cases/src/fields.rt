@@ -1,14 +1,9 @@
 // A record, and the sources in it: the fields of each kind at their places.
-ghost use Rattle.std.specs.Prelude.{◌+◌, ◌≤◌};
-
 use byteorder::{ByteOrder, LE};
 use locomotive_fields::Locomotive;
 use std::array;
 use store_records::{Aspiration, Bulk, Handling, Standing};
-use vehicle_fields::{
-    Coefficients, Distances, Group, Metres, Minutes, Neutraliser, POLLUTANTS, PerKilometre,
-    PerMinute,
-};
+use vehicle_fields::{Coefficients, Distances, Group, Minutes, Neutraliser, POLLUTANTS};
 
 pub(crate) type Record = [u8; 320];
 
@@ -50,15 +45,6 @@ pub(crate) fn aspiration(r: &Record) -> Aspiration {
     }
 }
 
-fn distances(r: &Record, at: usize) -> Distances
-    requires { at + 8 ≤ 320 }
-{
-    Distances {
-        nearest: Metres(LE::read_u32(&r[at..])),
-        farthest: Metres(LE::read_u32(&r[at + 4..])),
-    }
-}
-
 pub(crate) fn group(r: &Record) -> Group {
     Group {
         category: r[40],
@@ -73,8 +59,8 @@ pub(crate) fn group(r: &Record) -> Group {
             warming: r[50],
         },
         idle: Minutes(LE::read_u32(&r[52..])),
-        outward: distances(r, 60),
-        inward: distances(r, 68),
+        outward: Distances::from(array::from_fn(|i| LE::read_u32(&r[60 + 4 * i..]))),
+        inward: Distances::from(array::from_fn(|i| LE::read_u32(&r[68 + 4 * i..]))),
         days: array::from_fn(|month| r[76 + month]),
         timed: Minutes(LE::read_u32(&r[56..])),
     }
@@ -84,21 +70,10 @@ pub(crate) fn temperatures(r: &Record) -> [i16; 12] {
     array::from_fn(|month| LE::read_i16(&r[88 + 2 * month..]))
 }
 
-fn pollutant(r: &Record, at: usize) -> Coefficients
-    requires { at + 28 ≤ 320 }
-{
-    let mut seven = [0; 7];
-    LE::read_u32_into(&r[at..at + 28], &mut seven);
-    let [warm, mid, cold, warm_run, mid_run, cold_run, idle] = seven;
-    Coefficients {
-        warmup: [warm, mid, cold].map(PerMinute),
-        run: [warm_run, mid_run, cold_run].map(PerKilometre),
-        idle: PerMinute(idle),
-    }
-}
-
 pub(crate) fn coefficients(r: &Record) -> [Coefficients; POLLUTANTS] {
-    array::from_fn(|i| pollutant(r, 112 + 28 * i))
+    array::from_fn(|p| {
+        Coefficients::from(array::from_fn(|i| LE::read_u32(&r[112 + 28 * p + 4 * i..])))
+    })
 }
 
 pub(crate) fn locomotive(r: &Record) -> Locomotive {

@@ -1,4 +1,4 @@
-// Lines of the listing, on standard output. What can't be written is left out, and the rest is printed all the same.
+// Lines of the output. What can't be written is left out, and the rest is printed all the same.
 use super::fields::Record;
 use std::io::{Stdout, Write};
 use sums::{Emission, Refusal, Sum, Unit};
@@ -13,7 +13,7 @@ pub(crate) fn label(out: &mut Stdout, r: &Record) {
     text(out, b" ");
 }
 
-// The number and the slot of a refusal, and zeros of an accepted source.
+// The number and the slot of a refusal, and zeros of an accepted source: an `Option`'s text, and so no `Display` of `Refusal`.
 pub(crate) fn verdict(out: &mut Stdout, refusal: Option<Refusal>) {
     let _ = match refusal {
         Some(r) => writeln!(out, "{} {}", u8::from(r.reason), r.slot),
@@ -37,6 +37,7 @@ pub(crate) fn sums(out: &mut Stdout, e: &Emission) {
     );
 }
 
+// Two loops, since a total has no code to print; what they share is `sums`.
 pub(crate) fn all_sums(out: &mut Stdout, all: &[Emission]) {
     for e in all {
         sums(out, e);

@@ -2,7 +2,8 @@
 use sums::Emission;
 use vehicles::EMISSIONS;
 
-pub(crate) type Totals = [Emission; EMISSIONS];
+// By an emission's place in its source's answer, whatever its code: of a group there are the most.
+pub(crate) type ByPlace = [Emission; EMISSIONS];
 
 // The code is of no account here.
 pub(crate) fn plus(a: Emission, b: Emission) -> Emission {

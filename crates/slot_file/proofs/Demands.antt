@@ -1,6 +1,7 @@
 -- THE LETTER'S THREE DEMANDS, of the definitions that `walk::check` and `walk::answer` are proved to equal. By what an outcome means (`Outcomes`), by the range of
 -- each source that passed (`Ranged`), and by what two alike files have in common (`Agreement`). Assumes nothing.
-use Rattle.std.proofs.Common.{ℕ, zero, suc, ◌-◌, ◌<◌, ◌≤◌, not-suc-le-zero, le_of_suc-le-suc, arith, ◌≡◌, refl, sym, ap, ◌∙◌, true, List, [], ◌∷◌, map, leb, eqb, lit<, get_or, length, eqb-true, leb-true, Result, Ok, Err}
+use Rattle.std.proofs.Common.{ℕ, ◌-◌, ◌<◌, ◌≤◌, arith, ◌≡◌, refl, sym, ap, ◌∙◌, true, List, [], ◌∷◌, map, leb, eqb, lit<, get_or, length, eqb-true, leb-true, Result, Ok, Err}
+use Rattle.std.proofs.lemmas.List.{get_or-map}
 use Rattle.std.proofs.lemmas.Result.{IfOk-at_ok, IfErr-at_err}
 use mathlib.Core.List.{reverse_aux}
 use Rattle.sums.specs.Choice.{if_then_else, all_to}
@@ -27,7 +28,7 @@ use Rattle.slots.specs.Layout.{coefficients_of}
 use Rattle.slots.specs.declared.store.StoreRecord.{StoreRecord}
 use Rattle.slots.specs.declared.store.StoreRecord.TheVariants.{Handling, Standing, Aspiration}
 use Rattle.slot_file.specs.Sources.{coefficient_slot, group_at, store_at, locomotive_at, temperatures_at, Chains, inventory_at}
-use Rattle.slot_file.specs.Questions.{head_asks, member, coefficient_asks, closing_asks, groups_so_far, stores_so_far, locomotives_so_far, group_asks, store_asks, locomotive_asks, Outcome, accepted, refused}
+use Rattle.slot_file.specs.Questions.{head_asks, member, coefficient_asks, closing_asks, groups_so_far, stores_so_far, locomotives_so_far, group_asks, store_asks, locomotive_asks, Question, Outcome, accepted, refused}
 use Rattle.slot_file.specs.Walk.{outcome, told}
 use Rattle.slot_file.specs.Meaning.{AllYes, Good, Accepts}
 use Rattle.slot_file.specs.Codes.{codes, code_count}
@@ -80,27 +81,27 @@ pub each_onto : {A B : Type 0} (P : B → Type 0) (f : A → B) (l m : List A) �
 each_onto P f [] m h k = k
 each_onto P f (x ∷ l) m h k = each_onto P f l (x ∷ m) h.1 (h.0, k)
 
--- each code that a source gives to is one of the listing's
-dusts_listed : all_to 3 (λ (i : ℕ). member (get_or dust_codes i 0) codes) ≡ true
-unfolding all_to member if_then_else
-dusts_listed = refl
+-- what follows of each slot of a chain from what is asked of it
+pub each_good : (asks : List ℕ → ℕ → List Question) (P : ℕ → Type 0) → ((b : List ℕ) (k : ℕ) → AllYes (asks b k) → P k) → (l : List ℕ) → Good asks l → Each P l
+each_good asks P f [] w = tt
+each_good asks P f (k ∷ b) w = (f b k w.0, each_good asks P f b w.1)
+
+-- each code that a source gives to is one of the listing's: of a list of codes, one computed test
+listed_at : (xs : List ℕ) (n : ℕ) → all_to n (λ (i : ℕ). member (get_or xs i 0) codes) ≡ true → (i : ℕ) → i < n → member (get_or xs i 0) codes ≡ true
+listed_at xs n = all_to_at n (λ (i : ℕ). member (get_or xs i 0) codes)
 
 dust_listed : (d : ℕ) → 1 ≤ d → d ≤ 3 → member (dust_code d) codes ≡ true
-dust_listed d h l = all_to_at 3 (λ (i : ℕ). member (get_or dust_codes i 0) codes) dusts_listed (d - 1) (omega arith)
-
-petrol_listed : all_to emission_count (λ (p : ℕ). member (get_or petrol_codes p 0) codes) ≡ true
 unfolding all_to member if_then_else
-petrol_listed = refl
-
-diesel_listed : all_to emission_count (λ (p : ℕ). member (get_or diesel_codes p 0) codes) ≡ true
-unfolding all_to member if_then_else
-diesel_listed = refl
+dust_listed d h l = listed_at dust_codes 3 refl (d - 1) (omega arith)
 
 pollutant_listed : (fuel p : ℕ) → p < emission_count → member (pollutant_code fuel p) codes ≡ true
-unfolding pollutant_code
+unfolding pollutant_code all_to member if_then_else
 pollutant_listed fuel p h =
-    both (λ (c : ℕ). member c codes ≡ true) (eqb fuel 1) (all_to_at emission_count (λ (p : ℕ). member (get_or petrol_codes p 0) codes) petrol_listed p h)
-    (all_to_at emission_count (λ (p : ℕ). member (get_or diesel_codes p 0) codes) diesel_listed p h)
+    both (λ (c : ℕ). member c codes ≡ true) (eqb fuel 1) (listed_at petrol_codes emission_count refl p h) (listed_at diesel_codes emission_count refl p h)
+
+substances_listed : (p : ℕ) → p < substance_count → member (get_or locomotive_codes p 0) codes ≡ true
+unfolding all_to member if_then_else
+substances_listed = listed_at locomotive_codes substance_count refl
 
 one_gives : {a : Result Emission Refusal} (x : Contribution) → member x.code codes ≡ true → (a ≡ Ok (emitted x)) × Exactly (emitted x) x.tonnes x.rate → OneGiven a x
 one_gives x l e = record { emission = emitted x; answered = e.0; gives = record { code = refl; listed = l; exactly = e.1 } }
@@ -116,17 +117,13 @@ store_gives (Aspiration a) e =
     let d = (aspiration a e).dust in
     one_gives (aspiration_contribution a) (dust_listed a.dust d.0 d.1) (aspiration_exactly a e)
 
-substances_listed : all_to substance_count (λ (p : ℕ). member (get_or locomotive_codes p 0) codes) ≡ true
-unfolding all_to member if_then_else
-substances_listed = refl
-
 locomotive_gives : (l : Locomotive) → locomotive_in_range l ≡ true → shares_add_up l ≡ true → LocomotiveGives l
 unfolding locomotive_emissions
 locomotive_gives l r u = record {
   emissions = locomotive_emissions l;
   answered = (locomotive_exactly l r 0 u (omega arith)).0;
   each = λ p q. record {
-    listed = all_to_at substance_count (λ (p : ℕ). member (get_or locomotive_codes p 0) codes) substances_listed p q;
+    listed = substances_listed p q;
     code = ap (λ (x : Emission). x.code) (list_to_at no_emission substance_count (λ (m : ℕ). emitted (locomotive_contribution l m)) p q);
     exactly = (locomotive_exactly l r p u q).1;
   };
@@ -148,10 +145,6 @@ module _ (s : List ℕ) (h : AllYes (head_asks s)) where
         };
       }
 
-  each_group : (gs : List ℕ) → Good (λ (b : List ℕ). group_asks s (groups_so_far b)) gs → Each (λ g. GroupGives (temperatures_at s) (group_at s g)) gs
-  each_group [] w = tt
-  each_group (g ∷ b) w = (group_gives (groups_so_far b) g w.0, each_group b w.1)
-
   own_row : (c : Chains) (g : ℕ) → AllYes (group_asks s c g) → OwnCoefficients s g
   unfolding coefficient_asks closing_asks group_at
   own_row c g a = record {
@@ -160,29 +153,10 @@ module _ (s : List ℕ) (h : AllYes (head_asks s)) where
     used = λ n l. list_to_at no_coefficients pollutant_count (λ (m : ℕ). coefficients_of (slot_of s (coefficient_slot s g m))) n l;
   }
 
-  each_own : (gs : List ℕ) → Good (λ (b : List ℕ). group_asks s (groups_so_far b)) gs → Each (OwnCoefficients s) gs
-  each_own [] w = tt
-  each_own (g ∷ b) w = (own_row (groups_so_far b) g w.0, each_own b w.1)
-
-  each_store : (c : Chains) (ss : List ℕ) → Good (λ (b : List ℕ). store_asks s (stores_so_far c b)) ss → Each (λ k. StoreGives (store_at s k)) ss
-  each_store c [] w = tt
-  each_store c (k ∷ b) w = (store_gives (store_at s k) (store_answered s (stores_so_far c b) k w.0).1, each_store c b w.1)
-
-  each_locomotive : (c : Chains) (ls : List ℕ) → Good (λ (b : List ℕ). locomotive_asks s (locomotives_so_far c b)) ls → Each (λ k. LocomotiveGives (locomotive_at s k)) ls
-  each_locomotive c [] w = tt
-  each_locomotive c (k ∷ b) w =
-      let d = locomotives_so_far c b in
-      (locomotive_gives (locomotive_at s k) (locomotive_in_range_lem s d k w.0) (shares_add_up_lem s d k w.0), each_locomotive c b w.1)
-
-map_at : (f : ℕ → ℕ) (l : List ℕ) (i : ℕ) → i < length l → get_or (map f l) i 0 ≡ f (get_or l i 0)
-map_at f [] i h = absurd (not-suc-le-zero h)
-map_at f (x ∷ l) zero h = refl
-map_at f (x ∷ l) (suc i) h = map_at f l i (le_of_suc-le-suc h)
-
 module _ (s : List ℕ) (c : Chains) (v : outcome s ≡ accepted c) where
   -- DEMAND 1: "We don't want a program that supplies a missing coefficient"
   pub own_coefficients : Each (OwnCoefficients s) c.groups
-  own_coefficients = let a = (exactly_when s (accepted c)).0 v in each_own s a.head c.groups a.groups.good
+  own_coefficients = let a = (exactly_when s (accepted c)).0 v in each_good (λ b. group_asks s (groups_so_far b)) (OwnCoefficients s) (λ b g y. own_row s a.head (groups_so_far b) g y) c.groups a.groups.good
 
   -- DEMAND 2
   pub each_source : Worked s c (inventory_at s c)
@@ -190,9 +164,10 @@ module _ (s : List ℕ) (c : Chains) (v : outcome s ≡ accepted c) where
   each_source =
       let a = (exactly_when s (accepted c)).0 v in
       record {
-        groups = each_onto (GroupGives (temperatures_at s)) (group_at s) c.groups [] (each_group s a.head c.groups a.groups.good) tt;
-        stores = each_onto StoreGives (store_at s) c.stores [] (each_store s a.head c c.stores a.stores.good) tt;
-        locomotives = each_onto LocomotiveGives (locomotive_at s) c.locomotives [] (each_locomotive s a.head c c.locomotives a.locomotives.good) tt;
+        groups = each_onto (GroupGives (temperatures_at s)) (group_at s) c.groups [] (each_good (λ b. group_asks s (groups_so_far b)) _ (λ b g y. group_gives s a.head (groups_so_far b) g y) c.groups a.groups.good) tt;
+        stores = each_onto StoreGives (store_at s) c.stores [] (each_good (λ b. store_asks s (stores_so_far c b)) _ (λ b k y. store_gives (store_at s k) (store_answered s (stores_so_far c b) k y).1) c.stores a.stores.good) tt;
+        locomotives = each_onto LocomotiveGives (locomotive_at s) c.locomotives [] (each_good (λ b. locomotive_asks s (locomotives_so_far c b)) _
+            (λ b k y. let d = locomotives_so_far c b in locomotive_gives (locomotive_at s k) (locomotive_in_range_lem s d k y) (shares_add_up_lem s d k y)) c.locomotives a.locomotives.good) tt;
         counts = (summed (inventory_at s c), accepted_answer s c v, summed_counts s c);
         summed = refl;
       }
@@ -206,7 +181,7 @@ module _ (s : List ℕ) (c : Chains) (v : outcome s ≡ accepted c) where
       let p = exact_parts (λ (x : Contribution). x.rate) gram_parts (lit< tt) (λ (x : Contribution) (u : Units x). u.peak) (get_or codes i 0) 10000000 (inventory_at s c) in (
         summed (inventory_at s c),
         accepted_answer s c v,
-        record { annual = rw (map_at (annual_figure xs) codes i h) (rounded _ a.left); peak = rw (map_at (peak_figure xs) codes i h) (rounded _ p.left) },
+        record { annual = rw (get_or-map (annual_figure xs) codes i 0 0 h) (rounded _ a.left); peak = rw (get_or-map (peak_figure xs) codes i 0 0 h) (rounded _ p.left) },
       )
 
 -- DEMAND 3: "Every two such files alike in the twelve temperatures, month by month, in their vehicle groups, each with its own coefficients for the six pollutants,

@@ -1,6 +1,6 @@
 -- A refusal of a file has a number from 1 to the last that is not the listing's, and 12 by the last questions alone: the numbers stand in the questions, so the
 -- tests of them are computed. Assumes nothing.
-use Rattle.std.proofs.Common.{ℕ, zero, suc, ◌+◌, ◌≡◌, refl, Bool, true, ◌&&◌, not, List, [], ◌∷◌, ◌++◌, leb, eqb, leb-true, ap, Err}
+use Rattle.std.proofs.Common.{ℕ, zero, suc, ◌+◌, ◌≡◌, refl, Bool, true, ◌&&◌, not, List, [], ◌∷◌, leb, eqb, leb-true, ap, Err}
 use borrow.Author.Tests.{eqb-false, not-true}
 use Rattle.sums.specs.Choice.{all_of}
 use Rattle.sums.specs.Answer.{number_of}
@@ -8,9 +8,8 @@ use Rattle.sums.specs.declared.answer.Reason.{Reason}
 use Rattle.sums.specs.declared.answer.Reason.TheVariants.{Unreached}
 use Rattle.sums.specs.declared.answer.Refusal.{Refusal}
 use Rattle.sums.proofs.Choices.{nth, left, right}
-use Rattle.vehicle_fields.specs.Fields.{pollutant_count}
 use Rattle.slot_file.specs.Sources.{Chains}
-use Rattle.slot_file.specs.Questions.{last_number, listing_number, Question, head_asks, groups_so_far, stores_so_far, locomotives_so_far, link_asks, coefficient_asks, rows_asks, closing_asks, group_link_asks, group_asks, store_asks, locomotive_asks, reach_asks, last_asks, refused}
+use Rattle.slot_file.specs.Questions.{last_number, listing_number, Question, head_asks, groups_so_far, stores_so_far, locomotives_so_far, link_asks, coefficient_asks, rows_asks, closing_asks, group_asks, store_asks, locomotive_asks, reach_asks, last_asks, refused}
 use Rattle.slot_file.specs.Walk.{outcome}
 use Rattle.slot_file.specs.Meaning.{FirstNo, here, later, Groups, Stores, Locomotives, Refuses, at_head, at_group, at_store, at_locomotive, at_last}
 use Rattle.slot_file.specs.Alike.{all}
@@ -46,51 +45,9 @@ on_the_way n = of_file n && not (is_late n)
 abbrev numbered : (Reason → Bool) → List Question → Bool
 numbered p qs = all (λ (q : Question). p q.refusal.reason) qs
 
-numbered_append : (l m : List Question) → numbered on_the_way l ≡ true → numbered on_the_way m ≡ true → numbered on_the_way (l ++ m) ≡ true
-numbered_append [] m h k = k
-numbered_append (q ∷ l) m h k =
-    let p = on_the_way q.refusal.reason in
-    rw (left p (numbered on_the_way l) h) (numbered_append l m (right p (numbered on_the_way l) h) k)
-
 first_numbered : (p : Reason → Bool) (qs : List Question) (r : Refusal) → numbered p qs ≡ true → FirstNo qs r → p r.reason ≡ true
 first_numbered p qs r h (here q rest e) = left (p q.refusal.reason) (numbered p rest) h
 first_numbered p qs r h (later q rest e f) = first_numbered p rest r (right (p q.refusal.reason) (numbered p rest) h) f
-
-head_numbered : (s : List ℕ) → numbered on_the_way (head_asks s) ≡ true
-unfolding head_asks
-head_numbered s = refl
-
-coefficient_numbered : (s : List ℕ) (g n : ℕ) → numbered on_the_way (coefficient_asks s g n) ≡ true
-unfolding coefficient_asks
-coefficient_numbered s g n = refl
-
-link_numbered : (s : List ℕ) (h : ℕ) (b : List ℕ) (k : ℕ) (kind good : Bool) → numbered on_the_way (link_asks s h b k kind good) ≡ true
-unfolding link_asks
-link_numbered s h b k kind good = refl
-
-closing_numbered : (s : List ℕ) (g : ℕ) → numbered on_the_way (closing_asks s g) ≡ true
-unfolding closing_asks
-closing_numbered s g = refl
-
-rows_numbered : (s : List ℕ) (g n : ℕ) → numbered on_the_way (rows_asks s g n) ≡ true
-unfolding rows_asks
-rows_numbered s g zero = refl
-rows_numbered s g (suc n) = numbered_append (rows_asks s g n) (coefficient_asks s g n) (rows_numbered s g n) (coefficient_numbered s g n)
-
-group_numbered : (s : List ℕ) (c : Chains) (g : ℕ) → numbered on_the_way (group_asks s c g) ≡ true
-unfolding group_asks
-group_numbered s c g =
-    let l = group_link_asks s c g in
-    numbered_append (l ++ rows_asks s g pollutant_count) (closing_asks s g)
-    (numbered_append l (rows_asks s g pollutant_count) (link_numbered s _ _ g _ _) (rows_numbered s g pollutant_count)) (closing_numbered s g)
-
-store_numbered : (s : List ℕ) (c : Chains) (k : ℕ) → numbered on_the_way (store_asks s c k) ≡ true
-unfolding store_asks
-store_numbered s c k = link_numbered s _ _ k _ _
-
-locomotive_numbered : (s : List ℕ) (c : Chains) (k : ℕ) → numbered on_the_way (locomotive_asks s c k) ≡ true
-unfolding locomotive_asks link_asks
-locomotive_numbered s c k = refl
 
 reach_numbered : (p : Reason → Bool) → p Unreached ≡ true → (n i : ℕ) (l : List ℕ) → numbered p (reach_asks n i l) ≡ true
 unfolding reach_asks
@@ -104,10 +61,11 @@ last_numbered s c = reach_numbered of_file refl _ _ _
 -- a refusal along the way, and one by the last questions
 cases : (P : Refusal → Type 0) (s : List ℕ) (r : Refusal) → (on_the_way r.reason ≡ true → P r)
     → ((c : Chains) → Groups s c 0 → Stores s c 0 → Locomotives s c 0 → FirstNo (last_asks s c) r → P r) → Refuses s r → P r
-cases P s r way end (at_head f) = way (first_numbered on_the_way (head_asks s) r (head_numbered s) f)
-cases P s r way end (at_group c j h v z f) = way (first_numbered on_the_way _ r (group_numbered s (groups_so_far c.groups) j) f)
-cases P s r way end (at_store c j h v w z f) = way (first_numbered on_the_way _ r (store_numbered s (stores_so_far c c.stores) j) f)
-cases P s r way end (at_locomotive c j h v w u z f) = way (first_numbered on_the_way _ r (locomotive_numbered s (locomotives_so_far c c.locomotives) j) f)
+unfolding head_asks group_asks store_asks locomotive_asks link_asks rows_asks coefficient_asks closing_asks
+cases P s r way end (at_head f) = way (first_numbered on_the_way (head_asks s) r refl f)
+cases P s r way end (at_group c j h v z f) = way (first_numbered on_the_way (group_asks s (groups_so_far c.groups) j) r refl f)
+cases P s r way end (at_store c j h v w z f) = way (first_numbered on_the_way (store_asks s (stores_so_far c c.stores) j) r refl f)
+cases P s r way end (at_locomotive c j h v w u z f) = way (first_numbered on_the_way (locomotive_asks s (locomotives_so_far c c.locomotives) j) r refl f)
 cases P s r way end (at_last c h v w u f) = end c v w u f
 
 pub refused_number : (s : List ℕ) (r : Refusal) → Refuses s r → OfFile (number_of r.reason)

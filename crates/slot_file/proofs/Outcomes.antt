@@ -10,7 +10,7 @@ use Rattle.slots.specs.Layout.{next_of}
 use Rattle.slot_file.specs.Sources.{header_at, Chains}
 use Rattle.slot_file.specs.Questions.{most_slots, most_bytes, Question, slot_count, head_asks, member, link_asks, sources_of, groups_so_far, stores_so_far, locomotives_so_far, group_asks, store_asks, locomotive_asks, last_asks, Outcome, accepted, refused}
 use Rattle.slot_file.specs.Walk.{first, chain, after_all, locomotive_walk, store_walk, group_walk, outcome}
-use Rattle.slot_file.specs.Meaning.{AllYes, Reached, Chain, Good, Groups, Stores, Accepts, at_head, at_group, at_store, at_locomotive, at_last, Means}
+use Rattle.slot_file.specs.Meaning.{AllYes, Reached, Chain, Good, Groups, Stores, Locomotives, Accepts, at_head, at_group, at_store, at_locomotive, at_last, Means}
 use Rattle.slot_file.proofs.Asking.{first_yes, first_no, first_both}
 use Rattle.slot_file.proofs.Marks.{Different, different_short}
 use Rattle.slot_file.proofs.Chains.{Walks, walks, one_chain}
@@ -67,30 +67,37 @@ module _ (asks : List ℕ → ℕ → List Question) (end : List ℕ → Outcome
   walked from short = walks asks s from (λ n b k. chain asks end n s b k) end turn stop short
 
 module _ (s : List ℕ) (h : AllYes (head_asks s)) where
+  -- so the sources along a chain are fewer than the most slots
+  pub groups_short : (c : Chains) (link : ℕ) → Groups s c link → length (sources_of (groups_so_far c.groups)) < most_slots
+  groups_short c link v = different_short (slot_count s) _ (sized s h) (groups_differ s c.groups _ link v.chain v.good)
+
+  pub stores_short : (c : Chains) (link : ℕ) → Groups s c 0 → Stores s c link → length (sources_of (stores_so_far c c.stores)) < most_slots
+  stores_short c link v w =
+      different_short (slot_count s) _ (sized s h) (stores_differ s c c.stores _ link (groups_differ s c.groups _ 0 v.chain v.good) w.chain w.good)
+
+  pub locomotives_short : (c : Chains) (link : ℕ) → Groups s c 0 → Stores s c 0 → Locomotives s c link → length (sources_of (locomotives_so_far c c.locomotives)) < most_slots
+  locomotives_short c link v w u =
+      let k = stores_differ s c c.stores _ 0 (groups_differ s c.groups _ 0 v.chain v.good) w.chain w.good in
+      different_short (slot_count s) _ (sized s h) (locomotives_differ s c c.locomotives _ link k u.chain u.good)
+
   pub group_walk_lem : Walks (λ (b : List ℕ). group_asks s (groups_so_far b)) s (header_at s).heads.groups (group_walk s) (λ b. store_walk s (groups_so_far b))
   unfolding group_walk
   group_walk_lem =
       walked (λ b. group_asks s (groups_so_far b)) (λ b. store_walk s (groups_so_far b)) s (header_at s).heads.groups
-      (λ b link w. different_short (slot_count s) b (sized s h) (groups_differ s b _ link w.chain w.good))
+      (λ b link v. groups_short (groups_so_far b) link v)
 
   store_walk_lem : (c : Chains) → Groups s c 0 → Walks (λ (b : List ℕ). store_asks s (stores_so_far c b)) s (header_at s).heads.stores (store_walk s c) (λ b. locomotive_walk s (stores_so_far c b))
   unfolding store_walk
   store_walk_lem c v =
       walked (λ b. store_asks s (stores_so_far c b)) (λ b. locomotive_walk s (stores_so_far c b)) s (header_at s).heads.stores
-      (λ b link w.
-      let d = different_short (slot_count s) (sources_of (stores_so_far c b)) (sized s h) (stores_differ s c b _ link (groups_differ s c.groups _ 0 v.chain v.good) w.chain w.good) in
-      omega (arith, length-append b c.groups))
+      (λ b link w. omega (arith, stores_short (stores_so_far c b) link v w, length-append b c.groups))
 
   locomotive_walk_lem : (c : Chains) → Groups s c 0 → Stores s c 0
       → Walks (λ (b : List ℕ). locomotive_asks s (locomotives_so_far c b)) s (header_at s).heads.locomotives (locomotive_walk s c) (λ b. after_all s (locomotives_so_far c b))
   unfolding locomotive_walk
   locomotive_walk_lem c v w =
       walked (λ b. locomotive_asks s (locomotives_so_far c b)) (λ b. after_all s (locomotives_so_far c b)) s (header_at s).heads.locomotives
-      (λ b link u.
-      let g = groups_differ s c.groups _ 0 v.chain v.good in
-      let k = stores_differ s c c.stores _ 0 g w.chain w.good in
-      let d = different_short (slot_count s) (sources_of (locomotives_so_far c b)) (sized s h) (locomotives_differ s c b _ link k u.chain u.good) in
-      omega (arith, length-append b (c.stores ++ c.groups)))
+      (λ b link u. omega (arith, locomotives_short (locomotives_so_far c b) link v w u, length-append b (c.stores ++ c.groups)))
 
   pub headed : outcome s ≡ group_walk s
   unfolding outcome

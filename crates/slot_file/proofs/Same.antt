@@ -1,6 +1,7 @@
 -- The tests of being alike decide equality: numbers that are equal one by one make equal records, and a test on elements that decides equality gives one on
 -- lists. Assumes nothing.
-use Rattle.std.proofs.Common.{ℕ, ◌≡◌, refl, ap₂, List, [], ◌∷◌, Bool, true, false, eqb, get_or, drop, eqb-true, eq-eqb}
+use Rattle.std.proofs.Common.{ℕ, ◌≡◌, refl, sym, ap₂, List, [], ◌∷◌, Bool, true, false, eqb, get_or, drop, eqb-true, eq-eqb}
+use borrow.Author.Tests.{not-true}
 use Rattle.sums.proofs.Choices.{left, right, nth}
 use Rattle.vehicle_fields.specs.declared.units.PerMinute.{PerMinute}
 use Rattle.vehicle_fields.specs.declared.units.PerKilometre.{PerKilometre}
@@ -15,10 +16,8 @@ use Rattle.slot_file.specs.Sources.{VehicleGroup}
 use Rattle.slot_file.specs.Alike.{same_bool, same_list, same_minute, same_kilometre, same_coefficient_tests, same_coefficients, group_fields, same_group_tests, same_group, same_store, locomotive_fields, same_locomotive}
 
 bool_sound : (a b : Bool) → same_bool a b ≡ true → a ≡ b
-bool_sound true true e = refl
-bool_sound true false e = cc
-bool_sound false true e = cc
-bool_sound false false e = refl
+bool_sound true b e = sym e
+bool_sound false b e = sym (not-true b e)
 
 bool_same : (a : Bool) → same_bool a a ≡ true
 bool_same true = refl

@@ -1,7 +1,8 @@
 -- A file with byte 36 zero in every group is answered as before warm-ups were timed, and so is every file that was accepted then. Question 9 of a group with zero
 -- there asks what 01 asks, and a slot of another kind is refused before it; so the walk is the same. And the minutes of such a group are the table's or the heated
 -- stand's. Assumes nothing.
-use Rattle.std.proofs.Common.{ℕ, zero, suc, ◌+◌, ◌≡◌, refl, sym, ap, subst, ◌∙◌, Bool, true, false, ◌&&◌, List, [], ◌∷◌, ◌++◌, leb, eqb, ℤ, get_or, eqb-true, Ok}
+use Rattle.std.proofs.Common.{ℕ, zero, suc, ◌+◌, ◌≡◌, refl, sym, ap, subst, ◌∙◌, Bool, true, false, List, [], ◌∷◌, ◌++◌, leb, eqb, ℤ, get_or, eqb-true, Ok}
+use Rattle.std.proofs.Math.Bool.{and-true}
 use borrow.Author.Tests.{eqb-false}
 use Rattle.sums.specs.Choice.{if_then_else, all_of, list_to}
 use Rattle.sums.proofs.Choices.{left, right, nth}
@@ -25,16 +26,12 @@ use Rattle.slot_file.proofs.Asking.{yes_at, first_both}
 use Rattle.slot_file.proofs.Chains.{Walks, one_chain}
 use Rattle.slot_file.proofs.Marks.{different_short}
 use Rattle.slot_file.proofs.Outcomes.{exactly_when, walked, group_walk_lem, headed, groups_differ, sized}
-use Rattle.slot_file.proofs.Demands.{each_onto}
-
-and_true : (b : Bool) → (b && true) ≡ b
-and_true true = refl
-and_true false = refl
+use Rattle.slot_file.proofs.Demands.{each_onto, each_good}
 
 -- question 9 of a slot with a zero there
 good_same : (t : List ℕ) → byte_at t 36 ≡ 0 → group_good t (group_of t) ≡ untimed_good t (group_of t)
 unfolding group_good group_in_range group_of zero_from
-good_same t e = simp (e, and_true)
+good_same t e = simp (e, and-true)
 
 -- and a zero there is what 01's question 9 asks
 zero_there : (t : List ℕ) (n : ℕ) → zero_from t 36 (suc n) ≡ true → byte_at t 36 ≡ 0
@@ -130,10 +127,6 @@ module _ (s : List ℕ) where
       let t = slot_of s g in
       zero_there t 27 (nth (all_of (untimed_tests (group_of t)) ∷ leb (byte_at t 5) 3 ∷ zero_from t 36 28 ∷ []) (yes_at (untimed_asks s c g) a 3) 2)
 
-  were_zero : (gs : List ℕ) → Good (λ (b : List ℕ). untimed_asks s (groups_so_far b)) gs → Each (Zero s) gs
-  were_zero [] w = tt
-  were_zero (g ∷ b) w = (was_zero (groups_so_far b) g w.0, were_zero b w.1)
-
   still_yes : (c : Chains) (g : ℕ) → AllYes (untimed_asks s c g) → AllYes (group_asks s c g)
   unfolding untimed_asks group_asks link_asks
   still_yes c g a = (a.0, (a.1.0, (a.1.1.0, (good_same (slot_of s g) (was_zero c g a) ∙ a.1.1.1.0, a.1.1.1.1))))
@@ -158,7 +151,7 @@ module _ (s : List ℕ) where
       (untimed_walk h).both (Kept c) (λ b k w z r f e. absurd (subst Accepting (sym e) tt)) (λ b w e.
       let o : outcome s ≡ accepted c = headed s h ∙ (group_walk_lem s h).at_end b (record { chain = w.chain; good = still_good b w.good }) ∙ e in
       let a = (exactly_when s (accepted c)).0 o in
-      (o, subst (Each (Zero s)) (one_chain s (header_at s).heads.groups b c.groups w.chain a.groups.chain) (were_zero b w.good))))
+      (o, subst (Each (Zero s)) (one_chain s (header_at s).heads.groups b c.groups w.chain a.groups.chain) (each_good (λ b. untimed_asks s (groups_so_far b)) (Zero s) (λ b g y. was_zero (groups_so_far b) g y) b w.good))))
 
   -- THE CLAIM, of every file that was accepted
   pub accepted_as_untimed : (c : Chains) → untimed_outcome s ≡ accepted c → answer s ≡ untimed_answered s (accepted c)

@@ -29,7 +29,7 @@ pub data Outcome : Type 0 where
 abbrev pub last_number : ℕ
 last_number = 14
 
--- the listing's own number, which no check and no answer of a file has
+-- the listing's own number, which no check and no answer of a file has: "Only a listing asks 13, last"
 abbrev pub listing_number : ℕ
 listing_number = 13
 

@@ -3,10 +3,12 @@
 
 pub mod codes;
 
-pub use codes::{COUNT, code_at, place_of};
+pub use codes::{COUNT, listing_codes, place_of};
 
-// The slots of a file at most: question 1 keeps it to 65,536 bytes.
+// The slots and the bytes of a file at most, by question 1.
 pub const MOST_SLOTS: usize = 1_024;
+
+pub const MOST_BYTES: usize = slots::SLOT_SIZE * MOST_SLOTS;
 
 // How many groups, store records and locomotives were summed.
 #[derive(Clone, Copy)]
@@ -16,7 +18,8 @@ pub struct Counts {
     pub locomotives: u16,
 }
 
-// Of an accepted file: the annual figures in millionths of a tonne and the peak figures in ten-millionths of a gram per second, by code; and the counts.
+// Of an accepted file: the annual figures in millionths of a tonne and the peak figures in ten-millionths of a gram per second, by code; and the counts. Two rows, as the C
+// interface hands them over.
 #[derive(Clone, Copy)]
 pub struct Answer {
     pub annual: [u64; COUNT],

@@ -7,9 +7,9 @@ use super::slot::{Content, Slot};
 use super::{numbers, slot};
 use std::array;
 use sums::Reason;
-use vehicle_fields::{Coefficients, PerKilometre, PerMinute};
+use vehicle_fields::Coefficients;
 
-// The pollutant, the fields and the next index.
+// The pollutant, the fields and the next index. The pollutant is a number: question 10 judges it, which the walk asks, so a slot with any is read.
 #[derive(Clone, Copy)]
 pub struct CoefficientSlot {
     pub pollutant: u8,
@@ -21,11 +21,7 @@ pub struct CoefficientSlot {
 fn coefficients_of(t: &Slot) -> Coefficients
     ensures { result ≡ coefficients_of t.now }
 {
-    Coefficients {
-        warmup: array::from_fn(|period| PerMinute(numbers::u32_at(t, 4 + 4 * period))),
-        run: array::from_fn(|period| PerKilometre(numbers::u32_at(t, 16 + 4 * period))),
-        idle: PerMinute(numbers::u32_at(t, 28)),
-    }
+    Coefficients::from(array::from_fn(|i| numbers::u32_at(t, 4 + 4 * i)))
 }
 
 #[tactic(auto, unfolding(crate::specs::Layout::coefficient_slot_of, crate::specs::Layout::coefficients_good))]
@@ -47,7 +43,7 @@ impl Content for CoefficientSlot {
     }
 
     fn good(self, t: &Slot) -> bool {
-        vehicle_fields::coefficients_in_range(self.coefficients) & numbers::zero_from(t, 32, 32)
+        vehicle_fields::coefficients_in_range(self.coefficients) & numbers::zero_in(t, 32..64)
     }
 
     ghost kind_is_named = { λ e. Prim.cc };

@@ -7,7 +7,7 @@ use super::slot::{Content, Slot};
 use super::{numbers, slot};
 use std::array;
 use sums::Reason;
-use vehicle_fields::{Distances, Group, Metres, Minutes, Neutraliser};
+use vehicle_fields::{Distances, Group, Minutes, Neutraliser};
 
 // The fields, the next index and the first coefficient slot.
 #[derive(Clone, Copy)]
@@ -24,17 +24,19 @@ fn days_of(t: &Slot) -> [u8; 12]
     array::from_fn(|m| t[22 + m])
 }
 
-#[tactic(auto, unfolding(crate::specs::Layout::distances_at))]
+// At a literal, as the numbers are.
+#[tactic(auto, unfolding(crate::specs::Layout::distances_at, vehicle_fields::specs::Fields::distances_from))]
 fn distances_at(t: &Slot, at: usize) -> Distances
     requires { at + 4 ≤ slot_size }
     ensures { result ≡ distances_at t.now at }
 {
-    Distances {
-        nearest: Metres(u32::from(numbers::u16_at(t, at))),
-        farthest: Metres(u32::from(numbers::u16_at(t, at + 2))),
-    }
+    Distances::from([
+        u32::from(numbers::u16_at(t, at)),
+        u32::from(numbers::u16_at(t, at + 2)),
+    ])
 }
 
+// The two flags are taken apart where the C interface hands them over too: shared, two remainders would be a public function.
 #[tactic(auto, unfolding(crate::specs::Layout::group_of))]
 fn group_of(t: &Slot) -> Group
     ensures { result ≡ group_of t.now }
@@ -78,7 +80,7 @@ impl Content for GroupSlot {
     }
 
     fn good(self, t: &Slot) -> bool {
-        vehicle_fields::group_in_range(self.group) & (t[5] <= 3) & numbers::zero_from(t, 37, 27)
+        vehicle_fields::group_in_range(self.group) & (t[5] <= 3) & numbers::zero_in(t, 37..64)
     }
 
     ghost kind_is_named = { λ e. Prim.cc };
@@ -86,6 +88,7 @@ impl Content for GroupSlot {
 
 // What slot n of a file holds as a group.
 #[tactic(auto, unfolding(crate::specs::Layout::group_read, crate::specs::Layout::group_slot_of))]
+#[inline(always)]
 pub fn read_group(file: &[u8], n: usize) -> Result<GroupSlot, Reason>
     ensures { result ≡ group_read (slot_of file.now n) }
 {

@@ -15,7 +15,8 @@ pub struct Heads {
     pub locomotives: u16,
 }
 
-// The format number, the count of slots, the chains' heads, the temperatures, and whether the other bytes are zero.
+// The format number, the count of slots, the chains' heads, the temperatures, and whether the other bytes are zero: a flag, since question 4 comes after 2 and 3, which go
+// by the other fields.
 #[derive(Clone, Copy)]
 pub struct Header {
     pub format: u16,
@@ -47,6 +48,6 @@ pub fn read_header(file: &[u8]) -> Header
             locomotives: numbers::u16_at(t, 32),
         },
         temperatures: temperatures_of(t),
-        rest: numbers::zero_from(t, 34, 30),
+        rest: numbers::zero_in(t, 34..64),
     }
 }

@@ -54,7 +54,7 @@ impl Content for LocomotiveSlot {
     }
 
     fn good(self, t: &Slot) -> bool {
-        locomotive_fields::locomotive_in_range(self.locomotive) & numbers::zero_from(t, 18, 46)
+        locomotive_fields::locomotive_in_range(self.locomotive) & numbers::zero_in(t, 18..64)
     }
 
     ghost kind_is_named = { λ e. Prim.cc };
@@ -62,6 +62,7 @@ impl Content for LocomotiveSlot {
 
 // What slot n of a file holds as a locomotive.
 #[tactic(auto, unfolding(crate::specs::Layout::locomotive_read, crate::specs::Layout::locomotive_slot_of))]
+#[inline(always)]
 pub fn read_locomotive(file: &[u8], n: usize) -> Result<LocomotiveSlot, Reason>
     ensures { result ≡ locomotive_read (slot_of file.now n) }
 {

@@ -1,11 +1,13 @@
 // Numbers in the 64 bytes of a slot, little-endian, and bytes that are zero.
-ghost use Rattle.std.specs.Prelude.{◌≡◌, ℕ, ◌+◌, ◌≤◌, Bool, true, ◌&&◌, eqb};
+ghost use Rattle.std.specs.Prelude.{◌≡◌, ℕ, ◌+◌, ◌-◌, ◌≤◌, Bool, true, ◌&&◌, eqb};
 ghost use Rattle.std.specs.List.{fold};
 ghost use Rattle.slots.specs.Bytes.{slot_size, u16_at, u32_at, i16_at, zero_from};
 
 use super::slot::Slot;
+use std::ops::Range;
 
-// Three widths and no generic one: the library has a `from_le_bytes` for each and no trait over them.
+// Where a number stands is a literal at each call, or worked out from one, so a contract asks it and no type holds it. Three widths and no generic one: the library has a
+// `from_le_bytes` for each and no trait over them.
 pub(crate) fn u16_at(t: &Slot, at: usize) -> u16
     requires { at + 2 ≤ slot_size }
     ensures { result ≡ u16_at t.now at }
@@ -34,10 +36,11 @@ fn are_zero(bytes: &[u8]) -> bool
     bytes.iter().fold(true, |zero, b| zero & (*b == 0))
 }
 
-// Whether the n bytes from a place on are zero.
-pub(crate) fn zero_from(t: &Slot, from: usize, n: usize) -> bool
-    requires { from + n ≤ slot_size }
-    ensures { result ≡ zero_from t.now from n }
+// Whether the bytes at these places, literals too, are zero.
+pub(crate) fn zero_in(t: &Slot, places: Range<usize>) -> bool
+    requires ordered { places.start ≤ places.end }
+    requires inside { places.end ≤ slot_size }
+    ensures { result ≡ zero_from t.now places.start (places.end - places.start) }
 {
-    are_zero(&t[from..from + n])
+    are_zero(&t[places])
 }

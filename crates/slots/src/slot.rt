@@ -10,7 +10,7 @@ pub const SLOT_SIZE: usize = 64;
 
 pub(crate) type Slot = [u8; SLOT_SIZE];
 
-// The bytes of slot n where they stand in the file. A slot that the file does not have reads as zero.
+// The bytes of slot n where they stand in the file; nothing of a slot that the file does not have, whose bytes the definitions have as zeros.
 pub(crate) fn slot_at(file: &[u8], n: usize) -> Option<&Slot>
     ensures { MatchOption result (slot_of file.now n ≡ replicate slot_size 0) (λ t. t.now ≡ slot_of file.now n) }
 {
@@ -18,18 +18,18 @@ pub(crate) fn slot_at(file: &[u8], n: usize) -> Option<&Slot>
     slots.get(n)
 }
 
-// The next index of slot n, 0 of a slot that the file does not have: it reads as zero.
+// The next index of slot n. Of a slot that the file does not have it is 0 and no `None`: such a slot reads as zero, and each caller has asked question 6.
 pub fn next_of(file: &[u8], n: usize) -> u16
     ensures { result ≡ next_of (slot_of file.now n) }
 {
     slot_at(file, n).map_or(0, |t| numbers::u16_at(t, 0))
 }
 
-// The kind of slot n.
-pub(crate) fn kind_of(file: &[u8], n: usize) -> u8
-    ensures { result ≡ byte_at (slot_of file.now n) 2 }
+// The kind of slot n, where the file has it.
+pub(crate) fn kind_of(file: &[u8], n: usize) -> Option<u8>
+    ensures { MatchOption result (byte_at (slot_of file.now n) 2 ≡ 0) (λ k. k ≡ byte_at (slot_of file.now n) 2) }
 {
-    slot_at(file, n).map_or(0, |t| t[2])
+    slot_at(file, n).map(|t| t[2])
 }
 
 // What a slot of one kind holds: its fields by their byte positions, and whether they are in range and every byte that is not named is zero.
@@ -52,8 +52,10 @@ pub(crate) trait Content: Copy {
     ghost kind_is_named: { KIND ≡ 0 → ⊥ };
 }
 
-// What slot n holds, or the question that it is refused by: 8 or 9.
+// What slot n holds, or the question that it is refused by: 8 or 9. Inlined, as what
+// reads a source's slot is: of a content that the caller drops only what is tested is read.
 #[tactic(auto, unfolding(crate::specs::Layout::slot_read, sums::specs::Choice::if_then_else))]
+#[inline(always)]
 pub(crate) fn read<C: Content>(file: &[u8], n: usize) -> Result<C, Reason>
     ensures { let t = slot_of file.now n in result ≡ slot_read (eqb (byte_at t 2) C.KIND) (C.good t (C.fields t)) (C.fields t) }
 {

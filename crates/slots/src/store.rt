@@ -51,8 +51,8 @@ impl Content for Handling {
     fn good(self, t: &Slot) -> bool {
         store_records::handling_in_range(self)
             & (t[7] == 0)
-            & numbers::zero_from(t, 16, 4)
-            & numbers::zero_from(t, 24, 40)
+            & numbers::zero_in(t, 16..20)
+            & numbers::zero_in(t, 24..64)
     }
 
     ghost kind_is_named = { λ e. Prim.cc };
@@ -79,8 +79,8 @@ impl Content for Standing {
         store_records::standing_in_range(self)
             & (t[7] == 0)
             & (t[15] == 0)
-            & numbers::zero_from(t, 18, 2)
-            & numbers::zero_from(t, 24, 40)
+            & numbers::zero_in(t, 18..20)
+            & numbers::zero_in(t, 24..64)
     }
 
     ghost kind_is_named = { λ e. Prim.cc };
@@ -109,20 +109,21 @@ impl Content for Aspiration {
 
     fn good(self, t: &Slot) -> bool {
         store_records::aspiration_in_range(self)
-            & numbers::zero_from(t, 6, 2)
-            & numbers::zero_from(t, 20, 44)
+            & numbers::zero_in(t, 6..8)
+            & numbers::zero_in(t, 20..64)
     }
 
     ghost kind_is_named = { λ e. Prim.cc };
 }
 
 // What slot n of a file holds as a store record.
+#[inline(always)]
 pub fn read_store(file: &[u8], n: usize) -> Result<StoreRecord, Reason>
     ensures { StoreReads (slot_of file.now n) result }
 {
     match slot::kind_of(file, n) {
-        Handling::KIND => slot::read(file, n).map(StoreRecord::Handling),
-        Standing::KIND => slot::read(file, n).map(StoreRecord::Standing),
+        Some(Handling::KIND) => slot::read(file, n).map(StoreRecord::Handling),
+        Some(Standing::KIND) => slot::read(file, n).map(StoreRecord::Standing),
         _ => slot::read(file, n).map(StoreRecord::Aspiration),
     }
 }

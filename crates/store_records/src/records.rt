@@ -1,4 +1,5 @@
-// The fields of store records, and whether each is in its range.
+// The fields of store records, and whether each is in its range. What is one of a few (dust, material, openness, drop class) is a number and no enum: a rule takes any
+// value and refuses it itself, by 9.
 ghost use Rattle.std.specs.Prelude.{◌≡◌};
 ghost use Rattle.store_records.specs.Fields.{bulk_in_range, handling_in_range, standing_in_range, aspiration_in_range};
 
@@ -22,7 +23,7 @@ pub struct Handling {
     pub drop: u8,
 }
 
-// K6 is in hundredths, 0 where it is missing.
+// K6 is in hundredths, 0 where it is missing, as 01 has it: a `None` would be made of that 0 wherever a record is handed over.
 #[derive(Clone, Copy)]
 pub struct Standing {
     pub bulk: Bulk,
@@ -40,7 +41,7 @@ pub struct Aspiration {
     pub hours: u16,
 }
 
-// Two comparisons for each range, as the definition lists them: by `contains` it is no cheaper, and its proof is longer.
+// Two comparisons for each range, as the definition lists them: by `contains` its proof is longer, and it runs as many instructions.
 #[tactic(auto, unfolding(crate::specs::Fields::bulk_in_range))]
 fn bulk_in_range(b: Bulk) -> bool
     ensures { result ≡ bulk_in_range b }
@@ -57,6 +58,7 @@ fn bulk_in_range(b: Bulk) -> bool
         & (b.amount <= 1_000_000)
 }
 
+// A function for each record and no trait: nobody asks the range of a record whose kind he does not know.
 #[tactic(auto, unfolding(crate::specs::Fields::handling_in_range))]
 pub fn handling_in_range(h: Handling) -> bool
     ensures { result ≡ handling_in_range h }

@@ -15,7 +15,7 @@ use Rattle.stores.proofs.TableTests.{k1_scaled, k2_scaled, q_scaled, k3_scaled, 
 use Rattle.stores.proofs.Ranges.{handling, standing, aspiration}
 use Rattle.stores.proofs.Paper.{handling_counted, standing_counted, aspiration_counted}
 
-exposure_most : (b : Bulk) → exposure_parts b ≤ 23 * 1000 * 100 * 10
+pub exposure_most : (b : Bulk) → exposure_parts b ≤ 23 * 1000 * 100 * 10
 unfolding exposure_parts
 exposure_most b = (k3_scaled b.wind).most ⊗ (k4_scaled b.openness).most ⊗ (k5_scaled b.moisture).most ⊗ (k7_scaled b.grain).most
 
@@ -25,7 +25,7 @@ handling_bounded h p =
     let b = h.bulk in
     let m : handling_parts h ≤ 60375000000000000 =
     le_refl 5 ⊗ (k1_scaled b.material).most ⊗ (k2_scaled b.material).most ⊗ exposure_most b
-    ⊗ (handling h p).bulk.amount ⊗ (drop_scaled h.drop).most in
+    ⊗ (drop_scaled h.drop).most ⊗ (handling h p).bulk.amount in
     bounded 1 (handling_counted h) (omega arith) (omega arith)
 
 pub standing_bounded : (s : Standing) → standing_in_range s ≡ true → Bounded 1 (bulk_tonnes (standing_peak s)) (standing_peak s)
@@ -33,7 +33,7 @@ unfolding standing_parts
 standing_bounded s p =
     let r = standing s p in
     let m : standing_parts s ≤ 138000000000000000 =
-    le_refl 6 ⊗ exposure_most s.bulk ⊗ (k6_scaled s.k6 r.k6).most ⊗ (q_scaled s.bulk.material).most ⊗ r.bulk.amount in
+    le_refl 6 ⊗ exposure_most s.bulk ⊗ (q_scaled s.bulk.material).most ⊗ (k6_scaled s.k6 r.k6).most ⊗ r.bulk.amount in
     bounded 1 (standing_counted s) (omega arith) (omega arith)
 
 pub aspiration_bounded : (a : Aspiration) → aspiration_in_range a ≡ true → Bounded 1 (aspiration_tonnes (aspiration_peak a) a.hours) (aspiration_peak a)

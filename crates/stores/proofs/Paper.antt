@@ -8,7 +8,7 @@ use Rattle.sums.specs.Answer.{contribution, emitted}
 use Rattle.store_records.specs.declared.records.Handling.{Handling}
 use Rattle.store_records.specs.declared.records.Standing.{Standing}
 use Rattle.store_records.specs.declared.records.Aspiration.{Aspiration}
-use Rattle.stores.specs.Rules.{handling_peak, standing_peak, bulk_tonnes, aspiration_peak, aspiration_tonnes, dust_code}
+use Rattle.stores.specs.Rules.{handling_peak, standing_peak, bulk_tonnes, aspiration_peak, aspiration_tonnes, dust_code, handling_contribution, standing_contribution, aspiration_contribution}
 use Rattle.stores.specs.Parts.{exposure_parts, handling_parts, standing_parts, aspiration_parts, bulk_units, bulk_year_units, aspiration_units, aspiration_hour_units, emission_of}
 use Rattle.stores.proofs.TableTests.{k1_scaled, k2_scaled, q_scaled, k3_scaled, k4_scaled, k5_scaled, k6_same, k7_scaled, drop_scaled}
 
@@ -61,5 +61,15 @@ aspiration_counted a =
     }
 
 -- the sums of so many units are the rule's answer
-pub summed : {tonnes rate : Frac} {a p : ℕ} (dust : ℕ) → Counted tonnes rate a p → emission_of dust (annual_of a) (peak_of p) ≡ emitted (contribution (dust_code dust) tonnes rate)
+summed : {tonnes rate : Frac} {a p : ℕ} (dust : ℕ) → Counted tonnes rate a p → emission_of dust (annual_of a) (peak_of p) ≡ emitted (contribution (dust_code dust) tonnes rate)
 summed dust e = rw (parts e.annual, parts e.peak)
+
+pub handling_summed : (h : Handling) → emission_of h.bulk.dust (annual_of (handling_parts h * bulk_year_units)) (peak_of (handling_parts h * bulk_units)) ≡ emitted (handling_contribution h)
+handling_summed h = summed h.bulk.dust (handling_counted h)
+
+pub standing_summed : (s : Standing) → emission_of s.bulk.dust (annual_of (standing_parts s * bulk_year_units)) (peak_of (standing_parts s * bulk_units)) ≡ emitted (standing_contribution s)
+standing_summed s = summed s.bulk.dust (standing_counted s)
+
+pub aspiration_summed :
+    (a : Aspiration) → emission_of a.dust (annual_of (aspiration_parts a * a.hours * aspiration_hour_units)) (peak_of (aspiration_parts a * aspiration_units)) ≡ emitted (aspiration_contribution a)
+aspiration_summed a = summed a.dust (aspiration_counted a)

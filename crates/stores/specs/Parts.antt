@@ -17,10 +17,10 @@ exposure_parts b = parts_of 10 (k3_of b.wind) * parts_of 1000 (numbered k4_table
 unfoldable pub handling_parts : Handling → ℕ
 handling_parts h =
     5 * parts_of 100 (numbered k1_table h.bulk.material) * parts_of 100 (numbered k2_table h.bulk.material) * exposure_parts h.bulk
-    * h.bulk.amount * parts_of 10 (numbered drop_table h.drop)
+    * parts_of 10 (numbered drop_table h.drop) * h.bulk.amount
 
 unfoldable pub standing_parts : Standing → ℕ
-standing_parts s = 6 * exposure_parts s.bulk * parts_of 100 (k6_of s.k6) * parts_of 1000 (numbered q_table s.bulk.material) * s.bulk.amount
+standing_parts s = 6 * exposure_parts s.bulk * parts_of 1000 (numbered q_table s.bulk.material) * parts_of 100 (k6_of s.k6) * s.bulk.amount
 
 -- grams per second, in 10,000,000,000ths
 unfoldable pub aspiration_parts : Aspiration → ℕ

@@ -29,37 +29,42 @@ const DROP: [u64; 8] = [1, 5, 6, 7, 10, 15, 20, 25];
 // The substance code of each dust.
 const CODES: [u16; 3] = [152, 2908, 2909];
 
-// The entry of a table by its number, from 1.
-fn entry<T: Copy, const N: usize>(table: &[T; N], number: u8) -> T
-    requires { (1 ≤ number) × (number ≤ N) }
-    ensures { result ≡ get_or table.now (number - 1) result }
+// The entry of a table by its number, from 1, with 0 as 1 and `none` past its end: the definitions have an entry for each number too, so no caller owes a range.
+fn entry<T: Copy, const N: usize>(table: &[T; N], number: u8, none: T) -> T
+    ensures { result ≡ get_or table.now (number - 1) none }
 {
-    table[usize::from(number - 1)]
+    let n = usize::from(number);
+    // A record in range has passed this test, so the compiler drops it and the look-up below.
+    if (1 <= n) & (n <= N) {
+        return table[n - 1];
+    }
+    table.get(n.saturating_sub(1)).copied().unwrap_or(none)
 }
 
 // Each table has a function of its own, since each promises another fraction of the papers.
+#[tactic(auto, using(crate::proofs::TableTests::k1_scaled), unfolding(sums::specs::Fraction::parts_of))]
 pub(crate) fn k1(material: u8) -> u64
-    requires { (1 ≤ material) × (material ≤ 9) }
     ensures { (result ≡ parts_of 100 (numbered k1_table material)) × (result ≤ 7) }
 {
-    entry(&K1, material)
+    entry(&K1, material, 0)
 }
 
+#[tactic(auto, using(crate::proofs::TableTests::k2_scaled), unfolding(sums::specs::Fraction::parts_of))]
 pub(crate) fn k2(material: u8) -> u64
-    requires { (1 ≤ material) × (material ≤ 9) }
     ensures { (result ≡ parts_of 100 (numbered k2_table material)) × (result ≤ 3) }
 {
-    entry(&K2, material)
+    entry(&K2, material, 0)
 }
 
+#[tactic(auto, using(crate::proofs::TableTests::q_scaled), unfolding(sums::specs::Fraction::parts_of))]
 pub(crate) fn q(material: u8) -> u64
-    requires { (1 ≤ material) × (material ≤ 9) }
     ensures { (result ≡ parts_of 1000 (numbered q_table material)) × (result ≤ 5) }
 {
-    entry(&Q, material)
+    entry(&Q, material, 0)
 }
 
 // The line of its table that a value is up to: by `match`, the form that 01 names for wind, moisture and grain.
+#[tactic(auto, unfolding(sums::specs::Table::line_of, sums::specs::Choice::if_then_else))]
 fn wind_band(wind: u16) -> usize
     ensures { result ≡ line_of (bounds k3_table) wind }
 {
@@ -73,6 +78,7 @@ fn wind_band(wind: u16) -> usize
     }
 }
 
+#[tactic(auto, using(crate::proofs::TableTests::k3_scaled), unfolding(sums::specs::Fraction::parts_of))]
 pub(crate) fn k3(wind: u16) -> u64
     ensures { (result ≡ parts_of 10 (k3_of wind)) × (result ≤ 23) }
 {
@@ -80,13 +86,14 @@ pub(crate) fn k3(wind: u16) -> u64
     K3[band]
 }
 
+#[tactic(auto, using(crate::proofs::TableTests::k4_scaled), unfolding(sums::specs::Fraction::parts_of))]
 pub(crate) fn k4(openness: u8) -> u64
-    requires { (1 ≤ openness) × (openness ≤ 7) }
     ensures { (result ≡ parts_of 1000 (numbered k4_table openness)) × (result ≤ 1000) }
 {
-    entry(&K4, openness)
+    entry(&K4, openness, 0)
 }
 
+#[tactic(auto, unfolding(sums::specs::Table::line_of, sums::specs::Choice::if_then_else))]
 fn moisture_band(moisture: u16) -> usize
     ensures { result ≡ line_of (bounds k5_table) moisture }
 {
@@ -103,6 +110,7 @@ fn moisture_band(moisture: u16) -> usize
     }
 }
 
+#[tactic(auto, using(crate::proofs::TableTests::k5_scaled), unfolding(sums::specs::Fraction::parts_of))]
 pub(crate) fn k5(moisture: u16) -> u64
     ensures { (result ≡ parts_of 100 (k5_of moisture)) × (result ≤ 100) }
 {
@@ -111,9 +119,9 @@ pub(crate) fn k5(moisture: u16) -> u64
 }
 
 // A missing K6 counts as 1.30.
+#[tactic(auto, unfolding(crate::specs::Rules::k6_of, sums::specs::Choice::if_then_else, sums::specs::Fraction::parts_of))]
 pub(crate) fn k6(hundredths: u16) -> u64
-    requires { hundredths ≤ 200 }
-    ensures { (result ≡ parts_of 100 (k6_of hundredths)) × (result ≤ 200) }
+    ensures { (result ≡ parts_of 100 (k6_of hundredths)) × (hundredths ≤ 200 → result ≤ 200) }
 {
     if hundredths == 0 {
         130
@@ -122,6 +130,7 @@ pub(crate) fn k6(hundredths: u16) -> u64
     }
 }
 
+#[tactic(auto, unfolding(sums::specs::Table::line_of, sums::specs::Choice::if_then_else))]
 fn grain_band(grain: u16) -> usize
     ensures { result ≡ line_of (bounds k7_table) grain }
 {
@@ -137,6 +146,7 @@ fn grain_band(grain: u16) -> usize
     }
 }
 
+#[tactic(auto, using(crate::proofs::TableTests::k7_scaled), unfolding(sums::specs::Fraction::parts_of))]
 pub(crate) fn k7(grain: u16) -> u64
     ensures { (result ≡ parts_of 10 (k7_of grain)) × (result ≤ 10) }
 {
@@ -144,16 +154,15 @@ pub(crate) fn k7(grain: u16) -> u64
     K7[band]
 }
 
+#[tactic(auto, using(crate::proofs::TableTests::drop_scaled), unfolding(sums::specs::Fraction::parts_of))]
 pub(crate) fn drop_factor(class: u8) -> u64
-    requires { (1 ≤ class) × (class ≤ 8) }
     ensures { (result ≡ parts_of 10 (numbered drop_table class)) × (result ≤ 25) }
 {
-    entry(&DROP, class)
+    entry(&DROP, class, 0)
 }
 
 pub(crate) fn code_of(dust: u8) -> u16
-    requires { (1 ≤ dust) × (dust ≤ 3) }
     ensures { result ≡ dust_code dust }
 {
-    entry(&CODES, dust)
+    entry(&CODES, dust, 0)
 }

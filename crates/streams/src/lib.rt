@@ -1,4 +1,5 @@
-// What the programs need of a reader and a writer: a buffer filled, and a number written.
+// A buffer filled from a reader, which the program `inventory` calls, and a number put to a writer. No program here puts one: they
+// write theirs by `write!`.
 #![tactic(auto)]
 
 ghost use Rattle.std.specs.Prelude.{◌<◌, IfOk, OnOk, length, take};

@@ -1,10 +1,9 @@
 -- A choice follows from its test; all of a list's tests, from the one; sums and tests up to n, one step at a time.
 -- Assumes nothing.
-use Rattle.std.proofs.Common.{◌≡◌, ℕ, zero, suc, sum, ◌+◌, ◌*◌, ◌<◌, ◌≤◌, Bool, true, false, ◌&&◌, T, leb, List, [], ◌∷◌, ◌++◌, map, length, get_or, set, sym, refl, ap, ◌∙◌, subst, ⊎_elim, zero-le, le_of_suc-le-suc, not-suc-le-zero, eq-or-lt_of_le, le_of_mul-le-mul_right, add-one, arith, get_or-set_other, get_or-set_same, below_more, leb-true}
+use Rattle.std.proofs.Common.{◌≡◌, ℕ, zero, suc, sum, ◌+◌, ◌*◌, ◌<◌, ◌≤◌, Bool, true, false, ◌&&◌, T, leb, List, [], ◌∷◌, map, length, get_or, set, sym, refl, ap, ◌∙◌, subst, ⊎_elim, zero-le, le_of_suc-le-suc, not-suc-le-zero, eq-or-lt_of_le, le_of_mul-le-mul_right, add-one, arith, get_or-set_other, get_or-set_same, below_more, leb-true}
 use Rattle.std.proofs.Math.Bool.{and-true, and_assoc}
-use Rattle.std.proofs.lemmas.List.Folds.{list_all-append}
 use Rattle.std.proofs.lemmas.List.Sums.{sum_by-cons}
-use Rattle.std.specs.List.{list_all, zip}
+use Rattle.std.specs.List.{fold, list_all, zip}
 use Rattle.sums.specs.Choice.{if_then_else, all_from, all_of, all_to, sum_to, list_to}
 
 pub yes : {A : Type 0} (t : Bool) (r a b : A) → t ≡ true → r ≡ a → r ≡ if_then_else t a b
@@ -106,9 +105,10 @@ all_from_map p b (a ∷ l) = sym (and_assoc b (p a) (list_all p l)) ∙ all_from
 pub all_of_map : {A : Type 0} (p : A → Bool) (l : List A) → list_all p l ≡ all_of (map p l)
 all_of_map p l = all_from_map p true l
 
--- one item more
-pub tests_push : {A : Type 0} (p : A → Bool) (l : List A) (a : A) → list_all p (l ++ (a ∷ [])) ≡ (list_all p l && p a)
-tests_push p l a = rw (list_all-append p l (a ∷ []), and-true (p a))
+-- and so are the tests one after the other
+pub fold_tests : {A : Type 0} (p : A → Bool) (b : Bool) (l : List A) → fold (λ (ok : Bool) (a : A). ok && p a) b l ≡ all_from b (map p l)
+fold_tests p b [] = refl
+fold_tests p b (a ∷ l) = fold_tests p (b && p a) l
 
 pub sum_to_step : (n : ℕ) (f : ℕ → ℕ) → sum_to (n + 1) f ≡ sum_to n f + f n
 unfolding sum_to

@@ -1,28 +1,10 @@
--- A table in whole parts of one denominator. The code's lookup goes by the place of a band: `search bands` shows a place from the code's tests, and
--- one law takes it to the papers' table. One computed test over a table says that each entry is a whole number of parts and how large it is at most.
--- Assumes nothing.
-use Rattle.std.proofs.Common.{◌≡◌, ℕ, zero, suc, pred, ◌*◌, ◌%◌, ◌<◌, ◌≤◌, Bool, true, false, ◌&&◌, eqb, ltb, leb, List, [], ◌∷◌, ◌++◌, map, length, get_or, refl, ap, ◌∙◌, suc-le-suc, zero-le, le_of_suc-le-suc, not-suc-le-zero, div-add-mod', arith, lit<, ltb-true, eqb-true, le-leb, leb-true}
-use borrow.Author.Tests.{lt-leb}
+-- A table in whole parts of one denominator. The code's lookup goes by the place of a band, and one law takes it to the papers' table. One computed test over
+-- a table says that each entry is a whole number of parts and how large it is at most. Assumes nothing.
+use Rattle.std.proofs.Common.{◌≡◌, ℕ, zero, suc, ◌*◌, ◌%◌, ◌<◌, ◌≤◌, Bool, true, false, ◌&&◌, eqb, ltb, leb, List, [], ◌∷◌, ◌++◌, map, length, get_or, refl, ap, ◌∙◌, suc-le-suc, zero-le, div-add-mod', arith, lit<, ltb-true, eqb-true, leb-true}
 use Rattle.sums.specs.Choice.{if_then_else, all_of}
 use Rattle.sums.specs.Fraction.{Frac, whole, ◌over◌, ◌≈◌, parts_of}
 use Rattle.sums.specs.Table.{Line, up_to, line_of, bounds}
 use Rattle.sums.proofs.Choices.{nth, left, right}
-
--- x is in the first band, in a later one, or past the last
-pub here : (b x : ℕ) (bs : List ℕ) → x < suc b → 0 ≡ line_of (b ∷ bs) x
-unfolding line_of if_then_else
-here b x bs h = simp (le-leb x b (le_of_suc-le-suc h))
-
-pub past : (b x r : ℕ) (bs : List ℕ) → b < x → 0 < r → pred r ≡ line_of bs x → r ≡ line_of (b ∷ bs) x
-unfolding line_of if_then_else
-past b x zero bs h p e = absurd (not-suc-le-zero p)
-past b x (suc k) bs h p e = simp (lt-leb x b h) (ap suc e)
-
-pub end : (x : ℕ) → 0 ≡ line_of [] x
-unfolding line_of
-end x = refl
-
-pub ruleset bands = (lit<, here, past, end)
 
 -- a table's values, with the one above its lines
 abbrev pub values : List Line → Frac → List Frac
@@ -97,7 +79,3 @@ entry d b (x ∷ l) h (suc i) = entry d b l (right (all_of (scaled_tests d b x))
 
 pub entry_up_to : (d b : ℕ) (ls : List Line) (above : Frac) → all_scaled d b (values ls above) ≡ true → (x : ℕ) → Scaled d b (up_to ls above x)
 entry_up_to d b ls above h x = rw (column ls above x) at (entry d b (values ls above) h (line_of (bounds ls) x))
-
--- what a lookup promises: the table's parts, and their bound
-pub met : {d b r : ℕ} {x : Frac} → r ≡ parts_of d x → Scaled d b x → (r ≡ parts_of d x) × (r ≤ b)
-met e s = (e, rw e s.most)

@@ -26,6 +26,7 @@ pub enum Reason {
 impl From<Reason> for u8 {
     ghost from_gives = { λ r n. n ≡ number_of r };
 
+    // The discriminant, which `as` alone gives.
     fn from(r: Reason) -> u8 {
         r as u8
     }
@@ -39,7 +40,7 @@ pub struct Refusal {
 }
 
 impl Refusal {
-    // Of a source that a rule is asked of: it has no slot.
+    // Of a source that a rule is asked of: it has no slot, and 01 names slot 0. No `From`, by which a `?` would give what is asked of a slot that slot.
     pub fn of_source(reason: Reason) -> Self
         ensures { result ≡ of_source reason }
     {
@@ -47,7 +48,8 @@ impl Refusal {
     }
 }
 
-// What a source gives to one substance, by its code: a year's mass and the peak rate.
+// What a source gives to one substance, by its code: a year's mass and the peak rate. The code is a number, as the papers name substances: who adds emissions may hand over
+// any, and one that the listing does not have is added to none.
 #[derive(Clone, Copy)]
 pub struct Emission {
     pub code: u16,
@@ -56,6 +58,7 @@ pub struct Emission {
 }
 
 impl Emission {
+    // Of no substance: no code is 0.
     pub fn none() -> Self
         ensures { result ≡ no_emission }
     {

@@ -1,7 +1,9 @@
 // A sum over its denominator: a division of two words, whose quotient is whole units.
 ghost use Rattle.std.specs.Prelude.{◌≡◌, ◌+◌, ◌*◌, ◌^◌, ◌<◌, ◌≤◌};
-ghost use Rattle.sums.specs.Arithmetic.{Denominator, step_of};
+ghost use Rattle.sums.specs.Arithmetic.{step_of};
 ghost use Rattle.sums.specs.Figures.{mixed_of};
+
+use super::sum::Unit;
 
 // Whole units, and the part of one that is left, in exact units.
 #[derive(Clone, Copy)]
@@ -10,36 +12,34 @@ pub struct Mixed {
     pub part: u64,
 }
 
-// One step of a division: what was left so far, with 16 bits more, by d.
+// One step of a division: what was left so far, with 16 bits more, by the denominator. How small both are only its one caller knows.
 #[tactic(auto, using(crate::proofs::LongDivision::digit))]
-fn step(rest: u64, bits: u64, d: u64) -> Mixed
-    requires { Denominator d × (rest < d) × (bits ≤ 65535) }
-    ensures { (result ≡ step_of d rest bits) × (result.whole ≤ 65535) × (result.part < d) }
+fn step<U: Unit>(rest: u64, bits: u64) -> Mixed
+    requires { (rest < U.DENOMINATOR) × (bits ≤ 65535) }
+    ensures { (result ≡ step_of U.DENOMINATOR rest bits) × (result.whole ≤ 65535) × (result.part < U.DENOMINATOR) }
 {
     let next = rest * 65_536 + bits;
     Mixed {
-        whole: next / d,
-        part: next % d,
+        whole: next / U::DENOMINATOR,
+        part: next % U::DENOMINATOR,
     }
 }
 
 // A division of one word.
 #[tactic(auto, unfolding(crate::specs::Figures::mixed_of))]
-pub(crate) fn one_word(x: u64, d: u64) -> Mixed
-    requires { Denominator d }
-    ensures { (result ≡ mixed_of d x) × (result.part < d) }
+pub(crate) fn one_word<U: Unit>(x: u64) -> Mixed
+    ensures { (result ≡ mixed_of U.DENOMINATOR x) × (result.part < U.DENOMINATOR) }
 {
     Mixed {
-        whole: x / d,
-        part: x % d,
+        whole: x / U::DENOMINATOR,
+        part: x % U::DENOMINATOR,
     }
 }
 
 // A division of two words: what the high one leaves goes on into the low one, 16 bits at a time. Of the quotient it keeps 64 bits.
 // By hand, since a division of a u128 would call the compiler's runtime.
-pub(crate) fn two_words(high: u64, low: u64, d: u64) -> Mixed
-    requires { Denominator d }
-    ensures { (result ≡ mixed_of d (high * 2 ^ 64 + low)) × (result.part < d) }
+pub(crate) fn two_words<U: Unit>(high: u64, low: u64) -> Mixed
+    ensures { (result ≡ mixed_of U.DENOMINATOR (high * 2 ^ 64 + low)) × (result.part < U.DENOMINATOR) }
 {
     let digits = [
         low / 281_474_976_710_656,
@@ -47,9 +47,9 @@ pub(crate) fn two_words(high: u64, low: u64, d: u64) -> Mixed
         low / 65_536 % 65_536,
         low % 65_536,
     ];
-    let mut m = one_word(high, d);
+    let mut m = one_word::<U>(high);
     for bits in digits {
-        let next = step(m.part, bits, d);
+        let next = step::<U>(m.part, bits);
         m = Mixed {
             whole: (m.whole << 16) + next.whole,
             part: next.part,

@@ -50,7 +50,7 @@ pub type AnnualSum = Sum<Annual>;
 
 pub type PeakSum = Sum<Peak>;
 
-// A constant of the generic block cannot stand in another constant.
+// By the sums' own names, as 01 has them; a constant of the generic block cannot stand in another constant.
 impl AnnualSum {
     pub const DENOMINATOR: u64 = Annual::DENOMINATOR;
 }
@@ -68,6 +68,7 @@ impl<U> From<Words> for Sum<U> {
 }
 
 impl<U: Unit> Sum<U> {
+    // 01 names a function for a zero sum.
     pub fn zero() -> Self
         ensures { result ≡ sum_of 0 }
     {
@@ -80,6 +81,7 @@ impl<U: Unit> Sum<U> {
         Self::from(Words::of(x))
     }
 
+    // Functions and no `Add` and `Mul`: turns of 2 to the 128th are dropped, which `+` and `*` may not do.
     pub fn plus(self, other: Self) -> Self
         ensures { result ≡ sum_of (sum_parts self + sum_parts other) }
     {
@@ -96,12 +98,12 @@ impl<U: Unit> Sum<U> {
     pub fn printed(self) -> Mixed
         ensures { result ≡ sum_printed U.DENOMINATOR self }
     {
-        self.0.over(U::DENOMINATOR)
+        self.0.over::<U>()
     }
 
     pub fn rounded(self) -> u64
         ensures { result ≡ sum_rounded U.DENOMINATOR self % 2 ^ 64 }
     {
-        self.0.rounded(U::DENOMINATOR)
+        self.0.rounded::<U>()
     }
 }

@@ -1,19 +1,20 @@
 // Two words of 64 bits: the arithmetic of exact sums.
 ghost use Rattle.std.specs.Prelude.{◌≡◌, ◌+◌, ◌*◌, ◌%◌, ◌^◌, ◌<◌};
-ghost use Rattle.sums.specs.Arithmetic.{Denominator};
 ghost use Rattle.sums.specs.Figures.{units_in, words_of, mixed_of, nearest};
 ghost use Rattle.sums.specs.Fraction.{◌over◌};
 
 use super::mixed;
 use super::mixed::Mixed;
+use super::sum::Unit;
 
-// A whole number of exact units.
+// A whole number of exact units: two words and no `u128`, since the division by a denominator goes by words.
 #[derive(Clone, Copy)]
 pub struct Words {
     pub high: u64,
     pub low: u64,
 }
 
+// A half of 128 bits is below this and fits 64, where `try_from` would have a case that never is: `as` turns it.
 const WORD: u128 = 0x1_0000_0000_0000_0000;
 
 impl From<u128> for Words {
@@ -58,30 +59,28 @@ impl Words {
         Self::from(u128::from(self).wrapping_mul(u128::from(k)))
     }
 
-    // As whole units of d, and what is left of one.
+    // As whole printed units, and what is left of one.
     #[tactic(auto, unfolding(crate::specs::Figures::units_in))]
-    pub(crate) fn over(self, d: u64) -> Mixed
-        requires { Denominator d }
-        ensures { (result ≡ mixed_of d (units_in self)) × (result.part < d) }
+    pub(crate) fn over<U: Unit>(self) -> Mixed
+        ensures { (result ≡ mixed_of U.DENOMINATOR (units_in self)) × (result.part < U.DENOMINATOR) }
     {
         if self.high == 0 {
-            mixed::one_word(self.low, d)
+            mixed::one_word::<U>(self.low)
         } else {
-            mixed::two_words(self.high, self.low, d)
+            mixed::two_words::<U>(self.high, self.low)
         }
     }
 
-    // So many units over d, to the nearest whole. Of no units it is none, which many a code of a file has.
+    // To the nearest printed unit. Of no units it is none, which many a code of a file has.
     #[tactic(auto, using(crate::proofs::Nearest::none, crate::proofs::Nearest::up, crate::proofs::Nearest::down), unfolding(crate::specs::Figures::units_in, crate::specs::Figures::mixed_of))]
-    pub(crate) fn rounded(self, d: u64) -> u64
-        requires { Denominator d }
-        ensures { result ≡ nearest (units_in self over d) % 2 ^ 64 }
+    pub(crate) fn rounded<U: Unit>(self) -> u64
+        ensures { result ≡ nearest (units_in self over U.DENOMINATOR) % 2 ^ 64 }
     {
         if self.low == 0 && self.high == 0 {
             return 0;
         }
-        let m = self.over(d);
-        let half = d - m.part <= m.part;
+        let m = self.over::<U>();
+        let half = U::DENOMINATOR - m.part <= m.part;
         if half {
             m.whole.wrapping_add(1)
         } else {

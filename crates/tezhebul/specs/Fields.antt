@@ -1,5 +1,5 @@
 -- The sources that the rules are asked about, from the numbers that a caller hands over.
-use Rattle.std.specs.Prelude.{ℕ, ◌+◌, ◌*◌, ◌/◌, ◌%◌, Bool, List, [], ◌∷◌, leb, eqb, ℤ, get_or, length}
+use Rattle.std.specs.Prelude.{ℕ, ◌*◌, ◌/◌, ◌%◌, Bool, List, [], ◌∷◌, leb, eqb, ℤ, length, drop}
 use Rattle.sums.specs.Choice.{if_then_else, all_of, list_to}
 use Rattle.sums.specs.Answer.{refused_by}
 use Rattle.sums.specs.declared.answer.Reason.TheVariants.{OutOfRange}
@@ -7,8 +7,7 @@ use Rattle.store_records.specs.declared.records.Bulk.{Bulk}
 use Rattle.store_records.specs.declared.records.Handling.{Handling}
 use Rattle.store_records.specs.declared.records.Standing.{Standing}
 use Rattle.store_records.specs.declared.records.Aspiration.{Aspiration}
-use Rattle.vehicle_fields.specs.Fields.{pollutant_count}
-use Rattle.vehicle_fields.specs.declared.group.Distances.{Distances}
+use Rattle.vehicle_fields.specs.Fields.{pollutant_count, distances_from, coefficients_from}
 use Rattle.vehicle_fields.specs.declared.group.Group.{Group}
 use Rattle.vehicle_fields.specs.declared.group.Coefficients.{Coefficients}
 use Rattle.vehicles.specs.Rules.{GroupAnswer}
@@ -48,24 +47,12 @@ aspiration_of dust store concentration flow capture hours = record {
   hours = hours;
 }
 
--- "four distances of 0 to 20,000 metres: out from nearest, out from farthest, in to nearest, in to farthest": the two from a place on
-abbrev pub distances_at : List ℕ → ℕ → Distances
-distances_at l at = record { nearest = record { 0 = get_or l at 0 }; farthest = record { 0 = get_or l (at + 1) 0 } }
-
--- "seven 4-byte numbers ...: warm-up per minute in warm, transitional, cold period; run per kilometre in the same three; idle per minute": from a place on
-abbrev pub coefficients_at : List ℕ → ℕ → Coefficients
-coefficients_at l at = record {
-  warmup = record { 0 = get_or l at 0 } ∷ record { 0 = get_or l (at + 1) 0 } ∷ record { 0 = get_or l (at + 2) 0 } ∷ [];
-  run = record { 0 = get_or l (at + 3) 0 } ∷ record { 0 = get_or l (at + 4) 0 } ∷ record { 0 = get_or l (at + 5) 0 } ∷ [];
-  idle = record { 0 = get_or l (at + 6) 0 };
-}
-
 abbrev pub row_size : ℕ
 row_size = 7
 
--- of the pollutants, "1 CO, 2 hydrocarbons, 3 NO2, 4 soot, 5 SO2, 6 lead", one row after the other
+-- "seven 4-byte numbers" of each of the pollutants, "1 CO, 2 hydrocarbons, 3 NO2, 4 soot, 5 SO2, 6 lead", one row after the other
 unfoldable pub rows_of : List ℕ → List Coefficients
-rows_of l = list_to pollutant_count (λ (p : ℕ). coefficients_at l (row_size * p))
+rows_of l = list_to pollutant_count (λ (p : ℕ). coefficients_from (drop (row_size * p) l))
 
 -- how long the slices of a group have to be: four distances, twelve months' days and temperatures, a row of coefficients for each pollutant
 abbrev pub length_tests : List ℕ → List ℕ → List ℤ → List ℕ → List Bool
@@ -75,7 +62,8 @@ length_tests distances days temperatures coefficients =
 unfoldable pub lengths : List ℕ → List ℕ → List ℤ → List ℕ → Bool
 lengths distances days temperatures coefficients = all_of (length_tests distances days temperatures coefficients)
 
--- a group; "flags: bit 0 emission control done, bit 1 heated stand"
+-- a group; "flags: bit 0 emission control done, bit 1 heated stand"; "four distances of 0 to 20,000 metres: out from nearest, out from farthest, in to nearest, in to
+-- farthest"
 abbrev pub group_of : ℕ → ℕ → ℕ → ℕ → ℕ → ℕ → ℕ → ℕ → ℕ → ℕ → List ℕ → List ℕ → Group
 group_of category fuel flags vehicles leaving share running warming idle timed distances days = record {
   category = category;
@@ -87,8 +75,8 @@ group_of category fuel flags vehicles leaving share running warming idle timed d
   share = share;
   neutraliser = record { running = running; warming = warming };
   idle = record { 0 = idle };
-  outward = distances_at distances 0;
-  inward = distances_at distances 2;
+  outward = distances_from distances;
+  inward = distances_from (drop 2 distances);
   days = days;
   timed = record { 0 = timed };
 }

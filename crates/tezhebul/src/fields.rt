@@ -1,13 +1,10 @@
 // The fields of sources from the numbers that a caller hands over.
-ghost use Rattle.std.specs.Prelude.{◌≡◌, ◌+◌, ◌*◌, ◌<◌, ◌≤◌, IfSome, is_some};
-ghost use Rattle.vehicle_fields.specs.Fields.{pollutant_count};
-ghost use Rattle.tezhebul.specs.Fields.{bulk_of, lengths, distances_at, group_of, coefficients_at, row_size, rows_of};
+ghost use Rattle.std.specs.Prelude.{◌≡◌, IfSome, is_some};
+ghost use Rattle.tezhebul.specs.Fields.{bulk_of, lengths, group_of, rows_of};
 
+use std::array;
 use store_records::Bulk;
-use vehicle_fields::{
-    Coefficients, Distances, Group, Metres, Minutes, Neutraliser, POLLUTANTS, PerKilometre,
-    PerMinute,
-};
+use vehicle_fields::{Coefficients, Distances, Group, Minutes, Neutraliser, POLLUTANTS};
 
 pub(crate) fn bulk_of(
     dust: u8,
@@ -64,16 +61,7 @@ pub(crate) fn arrays_of<'a>(
     ))
 }
 
-fn distances_at(distances: &[u32; 4], at: usize) -> Distances
-    requires { at + 2 ≤ 4 }
-    ensures { result ≡ distances_at distances.now at }
-{
-    Distances {
-        nearest: Metres(distances[at]),
-        farthest: Metres(distances[at + 1]),
-    }
-}
-
+#[tactic(auto, unfolding(vehicle_fields::specs::Fields::distances_from))]
 pub(crate) fn group_of(
     category: u8,
     fuel: u8,
@@ -90,6 +78,7 @@ pub(crate) fn group_of(
 ) -> Group
     ensures { result ≡ group_of category fuel flags vehicles leaving share running warming idle timed distances.now days.now }
 {
+    let [out_nearest, out_farthest, in_nearest, in_farthest] = *distances;
     Group {
         category,
         fuel,
@@ -100,45 +89,17 @@ pub(crate) fn group_of(
         share,
         neutraliser: Neutraliser { running, warming },
         idle: Minutes(idle),
-        outward: distances_at(distances, 0),
-        inward: distances_at(distances, 2),
+        outward: Distances::from([out_nearest, out_farthest]),
+        inward: Distances::from([in_nearest, in_farthest]),
         days: *days,
         timed: Minutes(timed),
     }
 }
 
-// The row at a place from 0.
-fn row_at(numbers: &[u32; COEFFICIENTS], place: usize) -> Coefficients
-    requires { place < pollutant_count }
-    ensures { result ≡ coefficients_at numbers.now (row_size * place) }
-{
-    let at = ROW * place;
-    Coefficients {
-        warmup: [
-            PerMinute(numbers[at]),
-            PerMinute(numbers[at + 1]),
-            PerMinute(numbers[at + 2]),
-        ],
-        run: [
-            PerKilometre(numbers[at + 3]),
-            PerKilometre(numbers[at + 4]),
-            PerKilometre(numbers[at + 5]),
-        ],
-        idle: PerMinute(numbers[at + 6]),
-    }
-}
-
-// The rows of the pollutants. Written out: what `array::from_fn` promises of its calls did not prove the list of them.
-#[tactic(auto, unfolding(crate::specs::Fields::rows_of, sums::specs::Choice::list_to))]
+// The rows of the pollutants.
 pub(crate) fn rows_of(coefficients: &[u32; COEFFICIENTS]) -> [Coefficients; POLLUTANTS]
     ensures { result ≡ rows_of coefficients.now }
 {
-    [
-        row_at(coefficients, 0),
-        row_at(coefficients, 1),
-        row_at(coefficients, 2),
-        row_at(coefficients, 3),
-        row_at(coefficients, 4),
-        row_at(coefficients, 5),
-    ]
+    let (rows, _) = coefficients.as_chunks::<ROW>();
+    array::from_fn(|p| Coefficients::from(rows[p]))
 }

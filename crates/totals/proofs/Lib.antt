@@ -1,4 +1,2 @@
 -- The laws that belong to no one function.
-pub mod Places
-pub mod Adding
 pub mod Sums

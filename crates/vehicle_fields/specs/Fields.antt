@@ -26,6 +26,10 @@ temperatures_in_range ts = all_to 12 (λ (m : ℕ). temperature_in_range (get_or
 unfoldable pub distances_in_range : Distances → Bool
 distances_in_range d = leb d.nearest.0 20000 && leb d.farthest.0 20000
 
+-- "out from nearest, out from farthest, in to nearest, in to farthest": the nearest of two first
+unfoldable pub distances_from : List ℕ → Distances
+distances_from l = record { nearest = record { 0 = get_or l 0 0 }; farthest = record { 0 = get_or l 1 0 } }
+
 -- "22..33 days worked per month, each at most that month's length, February 29"
 abbrev pub month_lengths : List ℕ
 month_lengths = 31 ∷ 29 ∷ 31 ∷ 30 ∷ 31 ∷ 30 ∷ 31 ∷ 31 ∷ 30 ∷ 31 ∷ 30 ∷ 31 ∷ []
@@ -63,6 +67,14 @@ abbrev pub seven : Coefficients → List ℕ
 seven k =
     (get_or k.warmup 0 no_minute).0 ∷ (get_or k.warmup 1 no_minute).0 ∷ (get_or k.warmup 2 no_minute).0
     ∷ (get_or k.run 0 no_kilometre).0 ∷ (get_or k.run 1 no_kilometre).0 ∷ (get_or k.run 2 no_kilometre).0 ∷ k.idle.0 ∷ []
+
+-- the coefficients whose seven numbers are these
+unfoldable pub coefficients_from : List ℕ → Coefficients
+coefficients_from l = record {
+  warmup = record { 0 = get_or l 0 0 } ∷ record { 0 = get_or l 1 0 } ∷ record { 0 = get_or l 2 0 } ∷ [];
+  run = record { 0 = get_or l 3 0 } ∷ record { 0 = get_or l 4 0 } ∷ record { 0 = get_or l 5 0 } ∷ [];
+  idle = record { 0 = get_or l 6 0 };
+}
 
 unfoldable pub coefficients_in_range : Coefficients → Bool
 coefficients_in_range k = all_of (map (λ (n : ℕ). leb n 1000000) (seven k))

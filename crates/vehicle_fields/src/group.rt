@@ -1,6 +1,6 @@
 // The fields of a vehicle group and of its coefficients, and whether each is in its range.
 ghost use Rattle.std.specs.Prelude.{◌≡◌};
-ghost use Rattle.vehicle_fields.specs.Fields.{distances_in_range, days_in_range, group_in_range, seven, coefficients_in_range, all_in_range};
+ghost use Rattle.vehicle_fields.specs.Fields.{distances_from, distances_in_range, days_in_range, group_in_range, seven, coefficients_from, coefficients_in_range, all_in_range};
 ghost use Rattle.vehicle_fields.specs.SootAndLead.{all_zero};
 
 use super::units::{Metres, Minutes, PerKilometre, PerMinute};
@@ -15,6 +15,19 @@ pub struct Distances {
     pub farthest: Metres,
 }
 
+impl From<[u32; 2]> for Distances {
+    ghost from_gives = { λ l d. d ≡ distances_from l };
+
+    #[tactic(auto, unfolding(crate::specs::Fields::distances_from))]
+    fn from(numbers: [u32; 2]) -> Self {
+        let [nearest, farthest] = numbers;
+        Self {
+            nearest: Metres(nearest),
+            farthest: Metres(farthest),
+        }
+    }
+}
+
 // The neutraliser's factors in percent: for run and idle, and for warm-up.
 #[derive(Clone, Copy)]
 pub struct Neutraliser {
@@ -23,7 +36,9 @@ pub struct Neutraliser {
 }
 
 // Category: 1 car, 2 truck, 3 bus. Fuel: 1 petrol, 2 diesel. `controlled`: emission control is done. `heated`: a heated stand. `leaving`: the most
-// vehicles that leave in one hour. `share`: the percent that leave in a day. `days`: worked in each month. `timed`: the warm-up as it was timed, or 0.
+// vehicles that leave in one hour. `share`: the percent that leave in a day. `days`: worked in each month. `timed`: the warm-up as it was timed, or 0,
+// as 02 has it: a `None` would be made of that 0 wherever a group is handed over. Category and fuel are numbers and no enums: the rule takes any value and refuses it itself,
+// by 9.
 #[derive(Clone, Copy)]
 pub struct Group {
     pub category: u8,
@@ -49,6 +64,25 @@ pub struct Coefficients {
     pub idle: PerMinute,
 }
 
+impl From<[u32; 7]> for Coefficients {
+    ghost from_gives = { λ l k. k ≡ coefficients_from l };
+
+    #[tactic(auto, unfolding(crate::specs::Fields::coefficients_from))]
+    fn from(numbers: [u32; 7]) -> Self {
+        let [warm, between, cold, warm_run, run_between, cold_run, idle] = numbers;
+        Self {
+            warmup: [PerMinute(warm), PerMinute(between), PerMinute(cold)],
+            run: [
+                PerKilometre(warm_run),
+                PerKilometre(run_between),
+                PerKilometre(cold_run),
+            ],
+            idle: PerMinute(idle),
+        }
+    }
+}
+
+#[tactic(auto, unfolding(crate::specs::Fields::distances_in_range))]
 fn distances_in_range(d: Distances) -> bool
     ensures { result ≡ distances_in_range d }
 {
@@ -67,6 +101,7 @@ fn days_in_range(days: [u8; 12]) -> bool
 }
 
 // Two comparisons for each range, as the definition lists them: by `contains` it is no cheaper, and its proof is longer.
+#[tactic(auto, unfolding(crate::specs::Fields::group_in_range))]
 pub fn group_in_range(g: Group) -> bool
     ensures { result ≡ group_in_range g }
 {
@@ -87,7 +122,7 @@ pub fn group_in_range(g: Group) -> bool
         & (g.timed.0 <= 250)
 }
 
-// The numbers of a row.
+// The numbers of a row: the way back of `From`, which nobody else takes.
 fn seven(k: Coefficients) -> [u32; 7]
     ensures { result ≡ seven k }
 {
@@ -117,6 +152,7 @@ pub(crate) fn all_in_range(ks: [Coefficients; POLLUTANTS]) -> bool
     ks.iter().fold(true, |ok, k| ok & coefficients_in_range(*k))
 }
 
+#[tactic(auto, unfolding(crate::specs::SootAndLead::all_zero))]
 pub(crate) fn all_zero(k: Coefficients) -> bool
     ensures { result ≡ all_zero k }
 {

@@ -7,7 +7,7 @@ use Rattle.sums.proofs.Choices.{right, list_to_at}
 use Rattle.sums.proofs.Products.{◌⊗◌}
 use Rattle.sums.specs.Exactness.{Bounded, Exactly}
 use Rattle.sums.proofs.Sources.{bounded, exactly}
-use Rattle.vehicle_fields.specs.Fields.{temperatures_in_range, group_in_range, coefficients_in_range, no_coefficients, source_in_range, in_range}
+use Rattle.vehicle_fields.specs.Fields.{no_minute, no_kilometre, temperatures_in_range, group_in_range, coefficients_in_range, no_coefficients, source_in_range, in_range}
 use Rattle.vehicle_fields.specs.SootAndLead.{zero_where_due}
 use Rattle.vehicle_fields.specs.declared.group.Group.{Group}
 use Rattle.vehicle_fields.specs.declared.group.Neutraliser.{Neutraliser}
@@ -20,9 +20,9 @@ use Rattle.warmups.specs.Parts.{climate_of, number_of, conditions_in, Conditions
 use Rattle.warmups.specs.declared.warmup.Conditions.{Conditions}
 use Rattle.warmups.proofs.Decided.{number_below, times_in_range, conditions_in_range}
 use Rattle.vehicles.specs.Rules.{percent_of, contribution_by, contribution_of, emission_of, emission_count, emissions_of, group_answer}
-use Rattle.vehicles.specs.Parts.{activity_of, ActivityInRange, NeutraliserInRange, mass_parts, out_parts, year_parts}
+use Rattle.vehicles.specs.Parts.{distance_sum, activity_of, GroupInRange, CoefficientsInRange, ActivityInRange, NeutraliserInRange, mass_parts, out_parts, year_parts}
 use Rattle.vehicles.specs.declared.activity.Activity.{Activity}
-use Rattle.vehicles.proofs.Ranges.{ranged, twice, warmup, run, idle, of_six, source_in_range_lem, in_range_is, control_most}
+use Rattle.vehicles.proofs.Ranges.{ranged, coefficients, of_six, source_in_range_lem, in_range_is, control_most}
 use Rattle.vehicles.proofs.Periods.{warmup_parts_lem, run_parts_lem, idle_parts, activity_in_range}
 use Rattle.vehicles.proofs.Paper.{counted}
 
@@ -32,16 +32,21 @@ unfolding mass_parts
 mass_most v c w r i =
     add-le-add (le_refl 2 ⊗ w ⊗ c ⊗ v.warming) (add-le-add (r ⊗ v.running) (le_refl 2 ⊗ i ⊗ c ⊗ v.running))
 
-module _ (g : Group) (k : Coefficients) (c : ℕ) (hg : group_in_range g ≡ true) (hk : coefficients_in_range k ≡ true) (hc : c ≤ 100) where
-  pub out_most : (w : Conditions) → ConditionsInRange w → out_parts g k c w ≤ 15000000000000
-  unfolding out_parts
-  out_most w h =
-      let r = ranged g hg in
-      mass_most r.neutraliser hc (warmup k hk (number_of w.period) (number_below w.period) ⊗ h.minutes) (run k hk (number_of w.period) (number_below w.period) ⊗ twice g.outward r.outward) (idle k hk ⊗ r.idle)
+module _ (g : Group) (k : Coefficients) (c : ℕ) (r : GroupInRange g) (h : CoefficientsInRange k) (hc : c ≤ 100) where
+  module _ (w : Conditions) (e : ConditionsInRange w) where
+    pub out_warmup : (get_or k.warmup (number_of w.period) no_minute).0 * w.minutes.0 ≤ 300000000
+    out_warmup = h.warmup (number_of w.period) (number_below w.period) ⊗ e.minutes
+
+    pub out_run : (get_or k.run (number_of w.period) no_kilometre).0 * (distance_sum g.outward).0 ≤ 40000000000
+    out_run = let d : (distance_sum g.outward).0 ≤ 40000 = omega arith in h.run (number_of w.period) (number_below w.period) ⊗ d
+
+    pub out_most : out_parts g k c w ≤ 15000000000000
+    unfolding out_parts
+    out_most = mass_most r.neutraliser hc out_warmup out_run (h.idle ⊗ r.idle)
 
   pub year_most : (a : Activity) → ActivityInRange a → year_parts g k c a ≤ 8928000000000000
   unfolding year_parts
-  year_most a h = mass_most (ranged g hg).neutraliser hc (warmup_parts_lem k a hk h) (run_parts_lem k a hk h) (idle_parts k a hk h)
+  year_most a e = mass_most r.neutraliser hc (warmup_parts_lem k a h e) (run_parts_lem k a h e) (idle_parts k a h e)
 
 module _ (f : Factors) (hf : factors_in_range f ≡ true) (g : Group) (ts : List ℤ) (k : Coefficients) (hg : group_in_range g ≡ true) (hk : coefficients_in_range k ≡ true) (p : ℕ) where
   pub group_bounded : Bounded emission_count (contribution_by f g ts k p).tonnes (contribution_by f g ts k p).rate
@@ -51,10 +56,11 @@ module _ (f : Factors) (hf : factors_in_range f ≡ true) (g : Group) (ts : List
       let times = times_of f g.category in
       let t = times_in_range f hf g.category in
       let r = ranged g hg in
+      let h = coefficients k hk in
       let a : year_parts g k y (activity_of times g c.bands) * g.share * g.vehicles ≤ 8928000000000000000000 =
-      year_most g k y hg hk (control_most f hf g p) (activity_of times g c.bands) (activity_in_range g hg times t c.bands) ⊗ r.share ⊗ r.vehicles in
+      year_most g k y r h (control_most f hf g p) (activity_of times g c.bands) (activity_in_range g r times t c.bands) ⊗ r.share ⊗ r.vehicles in
       let b : out_parts g k y (conditions_in times g c.coldest) * g.leaving ≤ 150000000000000000 =
-      out_most g k y hg hk (control_most f hf g p) (conditions_in times g c.coldest) (conditions_in_range times t g r.timed c.coldest) ⊗ r.leaving in
+      out_most g k y r h (control_most f hf g p) (conditions_in times g c.coldest) (conditions_in_range times t g r.timed c.coldest) ⊗ r.leaving in
       bounded emission_count (counted f g ts k p) (omega arith) (omega arith)
 
   emission_exactly : Exactly (emitted (contribution_by f g ts k p)) (contribution_by f g ts k p).tonnes (contribution_by f g ts k p).rate

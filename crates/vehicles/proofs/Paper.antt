@@ -1,27 +1,26 @@
--- The whole numbers are the paper's fractions: each formula by a term that is written as the formula is. A control factor y is c percent. What the
--- periods give together is what the months give, by one month after the other; the months have one factor, N times the share, which leaves their sum.
+-- The whole numbers are the paper's fractions: each formula of a month and of a peak by one equation of products, since both sides are sums of the same
+-- products. A control factor is c percent. What the periods give together is what the months give, by one month after the other; the months have one
+-- factor, N times the share, which leaves their sum.
 -- Assumes nothing.
-use Rattle.std.proofs.Common.{ℕ, zero, suc, ◌+◌, ◌*◌, ◌<◌, arith, ◌≡◌, ap, ◌∙◌, true, List, lit<, ℤ, pos, get_or}
+use Rattle.std.proofs.Common.{ℕ, zero, suc, ◌+◌, ◌*◌, ◌<◌, arith, ◌≡◌, true, List, lit<, ℤ, pos, get_or}
 use Rattle.sums.specs.Choice.{sum_to, list_to}
-use Rattle.sums.specs.Fraction.{Frac, ◌over◌, ◌≈◌}
+use Rattle.sums.specs.Fraction.{◌over◌, ◌≈◌}
 use Rattle.sums.specs.Figures.{tonne_parts, gram_parts}
 use Rattle.sums.specs.Answer.{emitted}
 use Rattle.sums.proofs.Choices.{sum_to_times, list_to_same}
-use Rattle.sums.proofs.Fractions.{≈_refl, ≈_⊙, ≈_⊞, ≈_per, ≈_over, total_to_parts, parts}
+use Rattle.sums.proofs.Fractions.{≈_per, ≈_over, total_to_parts, parts}
 use Rattle.sums.specs.Exactness.{Counted}
 use Rattle.vehicle_fields.specs.Fields.{no_minute, no_kilometre, no_coefficients, temperatures_in_range}
-use Rattle.vehicle_fields.specs.declared.group.Distances.{Distances}
-use Rattle.vehicle_fields.specs.declared.group.Neutraliser.{Neutraliser}
 use Rattle.vehicle_fields.specs.declared.group.Group.{Group}
 use Rattle.vehicle_fields.specs.declared.group.Coefficients.{Coefficients}
 use Rattle.vehicle_factors.specs.Factors.{standard_factors}
 use Rattle.vehicle_factors.specs.declared.Factors.{Factors}
 use Rattle.warmups.specs.Temperatures.{warmup_band, lowest_of}
-use Rattle.warmups.specs.Warmup.{times_of, tenths_in, period_at, minutes_at}
-use Rattle.warmups.specs.Parts.{climate_of, number_of, period_in, conditions_in}
+use Rattle.warmups.specs.Warmup.{times_of, period_at, minutes_at}
+use Rattle.warmups.specs.Parts.{climate_of, number_of, conditions_in}
 use Rattle.warmups.specs.declared.warmup.Conditions.{Conditions}
 use Rattle.warmups.proofs.Decided.{period_same, band_at}
-use Rattle.vehicles.specs.Rules.{run_and_idle, out_grams, in_grams, month_grams, annual_tonnes, peak_grams, percent_of, control_of, contribution_by, emission_of, emission_count, emissions_of, group_answer}
+use Rattle.vehicles.specs.Rules.{run_and_idle, out_grams, in_grams, month_grams, annual_tonnes, peak_grams, percent_of, contribution_by, emission_of, emission_count, emissions_of, group_answer}
 use Rattle.vehicles.specs.Parts.{distance_sum, month_period, month_warmup, month_run, month_idle, activity_of, run_and_idle_parts, mass_parts, out_parts, year_parts, year_units, peak_units, emission_parts, emissions_in, answer_in}
 use Rattle.vehicles.proofs.Ranges.{in_range_is}
 use Rattle.vehicles.proofs.Periods.{by_months}
@@ -32,24 +31,6 @@ in_parts g k c w = run_and_idle_parts g.neutraliser c ((get_or k.run (number_of 
 
 abbrev days_parts : Group → Coefficients → ℕ → Conditions → ℕ → ℕ
 days_parts g k c w days = (out_parts g k c w + in_parts g k c w) * days
-
-module _ (v : Neutraliser) (c : ℕ) where
-  -- so much, and n days more
-  linear : (x y z w r i n : ℕ) → mass_parts v c (x + w * n) (y + r * n) (z + i * n) ≡ mass_parts v c x y z + mass_parts v c w r i * n
-  unfolding mass_parts
-  linear x y z w r i n = omega arith
-
-  -- warm-up w over t, run r over the distances d and e, and idling i over u each way
-  one_month_more : (x y z w t r d e i u n : ℕ) →
-      mass_parts v c (x + w * (n * t)) (y + r * (n * (d + e))) (i * (z + n * (2 * u)))
-      ≡ mass_parts v c x y (i * z) + (mass_parts v c (w * t) (r * d) (i * u) + run_and_idle_parts v c (r * e) (i * u)) * n
-  unfolding mass_parts
-  one_month_more x y z w t r d e i u n =
-      let a : w * (n * t) ≡ w * t * n = omega arith in
-      let b : r * (n * (d + e)) ≡ r * (d + e) * n = omega arith in
-      let f : i * (z + n * (2 * u)) ≡ i * z + i * (2 * u) * n = omega arith in
-      let s : mass_parts v c (w * t) (r * (d + e)) (i * (2 * u)) ≡ mass_parts v c (w * t) (r * d) (i * u) + run_and_idle_parts v c (r * e) (i * u) = omega arith in
-      rw (a, b, f, ← s) (linear x y (i * z) (w * t) (r * (d + e)) (i * (2 * u)) n)
 
 module _ (times : List ℕ) (g : Group) (bs : List ℕ) (k : Coefficients) (c : ℕ) where
   abbrev month_parts : ℕ → ℕ
@@ -62,7 +43,7 @@ module _ (times : List ℕ) (g : Group) (bs : List ℕ) (k : Coefficients) (c : 
       ≡ sum_to n month_parts
   unfolding out_parts sum_to mass_parts conditions_in
   by_days zero = omega arith
-  by_days (suc n) = one_month_more g.neutraliser c _ _ _ _ _ _ _ _ _ _ _ ∙ ap (λ (x : ℕ). x + month_parts n) (by_days n)
+  by_days (suc n) = omega (arith, by_days n)
 
   year_by_days : year_parts g k c (activity_of times g bs) ≡ sum_to 12 month_parts
   unfolding year_parts activity_of list_to sum_to
@@ -70,49 +51,17 @@ module _ (times : List ℕ) (g : Group) (bs : List ℕ) (k : Coefficients) (c : 
       rw (by_months g bs (month_warmup times g bs) (λ (p : ℕ). (get_or k.warmup p no_minute).0) 12, by_months g bs (month_run g) (λ (p : ℕ). (get_or k.run p no_kilometre).0) 12)
       (by_days 12)
 
-module _ (f : Factors) (g : Group) (k : Coefficients) (y : Frac) (c : ℕ) (same : y ≈ (c over 100)) where
+module _ (f : Factors) (g : Group) (k : Coefficients) (c : ℕ) where
   -- at a temperature
   abbrev conditions : ℤ → Conditions
   conditions t = conditions_in (times_of f g.category) g (warmup_band t)
 
-  running : (g.neutraliser.running over 100) ≈ (g.neutraliser.running over 100)
-  running = ≈_refl g.neutraliser.running 100 (lit< tt)
-
-  run_and_idle_lem : (period : ℕ) (d : Distances) →
-      run_and_idle g k y period d ≈ (run_and_idle_parts g.neutraliser c ((get_or k.run period no_kilometre).0 * (distance_sum d).0) (k.idle.0 * g.idle.0) over 2000000000)
-  unfolding run_and_idle
-  run_and_idle_lem period d =
-      ≈_⊞
-      (≈_⊙ (≈_⊙ (≈_refl (get_or k.run period no_kilometre).0 10000 (lit< tt)) (≈_refl (distance_sum d).0 2000 (lit< tt))) running)
-      (≈_over (2 * (k.idle.0 * g.idle.0) * c * g.neutraliser.running) 2000000000 (lit< tt) (omega arith)
-      (≈_⊙ (≈_⊙ (≈_⊙ (≈_refl k.idle.0 10000 (lit< tt)) (≈_refl g.idle.0 10 (lit< tt))) same) running))
-
-  out : (t : ℤ) → out_grams g k y (period_at g t) (minutes_at f g t) ≈ (out_parts g k c (conditions t) over 2000000000)
-  unfolding out_grams out_parts mass_parts conditions_in minutes_at
-  out t =
-      let b = warmup_band t in
-      let w = (get_or k.warmup (number_of (period_in g b)) no_minute).0 in
-      let m = tenths_in (times_of f g.category) g b in
-      rw (period_same g t)
-      (≈_⊞
-      (≈_over (2 * (w * m) * c * g.neutraliser.warming) 2000000000 (lit< tt) (omega arith)
-      (≈_⊙ (≈_⊙ (≈_⊙ (≈_refl w 10000 (lit< tt)) (≈_refl m 10 (lit< tt))) same) (≈_refl g.neutraliser.warming 100 (lit< tt))))
-      (run_and_idle_lem (number_of (period_in g b)) g.outward))
-
-  back : (t : ℤ) → in_grams g k y (period_at g t) ≈ (in_parts g k c (conditions t) over 2000000000)
-  unfolding in_grams conditions_in
-  back t = rw (period_same g t) (run_and_idle_lem (number_of (period_in g (warmup_band t))) g.inward)
-
   month : (t : ℤ) (days : ℕ) →
-      month_grams g k y (period_at g t) (minutes_at f g t) days ≈ ((days_parts g k c (conditions t) days * (g.share * g.vehicles)) over 200000000000)
-  unfolding month_grams
-  month t days =
-      ≈_over (days_parts g k c (conditions t) days * (g.share * g.vehicles)) 200000000000 (lit< tt) (omega arith)
-      (≈_⊙
-      (≈_⊙ (≈_⊙ (≈_⊞ (out t) (back t)) (≈_refl g.share 100 (lit< tt))) (≈_refl g.vehicles 1 (lit< tt)))
-      (≈_refl days 1 (lit< tt)))
+      month_grams g k (c over 100) (period_at g t) (minutes_at f g t) days ≈ ((days_parts g k c (conditions t) days * (g.share * g.vehicles)) over 200000000000)
+  unfolding month_grams out_grams in_grams run_and_idle out_parts mass_parts conditions_in minutes_at
+  month t days = rw (period_same g t) (record { left = lit< tt; right = lit< tt; cross = omega arith })
 
-  year : (ts : List ℤ) → annual_tonnes (minutes_at f g) g ts k y ≈ ((year_parts g k c (activity_of (times_of f g.category) g (climate_of ts).bands) * g.share * (g.vehicles * year_units)) over tonne_parts)
+  year : (ts : List ℤ) → annual_tonnes (minutes_at f g) g ts k (c over 100) ≈ ((year_parts g k c (activity_of (times_of f g.category) g (climate_of ts).bands) * g.share * (g.vehicles * year_units)) over tonne_parts)
   unfolding annual_tonnes
   year ts =
       let times = times_of f g.category in
@@ -120,15 +69,13 @@ module _ (f : Factors) (g : Group) (k : Coefficients) (y : Frac) (c : ℕ) (same
       ≈_over (year_parts g k c (activity_of times g b) * g.share * (g.vehicles * year_units)) tonne_parts (lit< tt) (omega arith)
       (≈_per 1000000 (lit< tt)
       (rw (sum_to_times (g.share * g.vehicles) (month_parts times g b k c) 12, ← year_by_days times g b k c)
-      at (total_to_parts (λ (m : ℕ). month_grams g k y (period_at g (get_or ts m (pos 0))) (minutes_at f g (get_or ts m (pos 0))) (get_or g.days m 0))
+      at (total_to_parts (λ (m : ℕ). month_grams g k (c over 100) (period_at g (get_or ts m (pos 0))) (minutes_at f g (get_or ts m (pos 0))) (get_or g.days m 0))
       (λ (m : ℕ). month_parts times g b k c m * (g.share * g.vehicles)) 200000000000 (lit< tt) 12
       (λ (m : ℕ) (p : m < 12). rw (band_at ts m p) (month (get_or ts m (pos 0)) (get_or g.days m 0))))))
 
-  peak : (t : ℤ) → peak_grams (minutes_at f g) g k y t ≈ ((out_parts g k c (conditions t) * g.leaving * peak_units) over gram_parts)
-  unfolding peak_grams
-  peak t =
-      ≈_over (out_parts g k c (conditions t) * g.leaving * peak_units) gram_parts (lit< tt) (omega arith)
-      (≈_per 3600 (lit< tt) (≈_⊙ (out t) (≈_refl g.leaving 1 (lit< tt))))
+  peak : (t : ℤ) → peak_grams (minutes_at f g) g k (c over 100) t ≈ ((out_parts g k c (conditions t) * g.leaving * peak_units) over gram_parts)
+  unfolding peak_grams out_grams run_and_idle out_parts mass_parts conditions_in minutes_at
+  peak t = rw (period_same g t) (record { left = lit< tt; right = lit< tt; cross = omega arith })
 
 -- a pollutant's tonnes and rate, in exact units
 module _ (f : Factors) (g : Group) (ts : List ℤ) (k : Coefficients) (p : ℕ) where
@@ -138,8 +85,7 @@ module _ (f : Factors) (g : Group) (ts : List ℤ) (k : Coefficients) (p : ℕ) 
   unfolding climate_of
   counted =
       let c = percent_of f g p in
-      let same = ≈_refl c 100 (lit< tt) in
-      record { annual = year f g k (control_of f g p) c same ts; peak = peak f g k (control_of f g p) c same (lowest_of ts) }
+      record { annual = year f g k c ts; peak = peak f g k c (lowest_of ts) }
 
   -- its sums are what the rule gives
   emission : emission_parts f g k p (activity_of (times_of f g.category) g (climate_of ts).bands) (conditions_in (times_of f g.category) g (climate_of ts).coldest) ≡ emitted (contribution_by f g ts k p)

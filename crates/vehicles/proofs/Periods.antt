@@ -1,18 +1,17 @@
 -- A month adds to its own period alone. So a sum over the periods, each with its coefficient, is the sum over the months, each with its period's
 -- coefficient; and what each month has at most bounds the periods together. Assumes nothing.
-use Rattle.std.proofs.Common.{ℕ, zero, suc, ◌+◌, ◌*◌, ◌<◌, ◌≤◌, zero-le, le_refl, add-le-add, arith, ◌≡◌, ap, ◌∙◌, true, List, eqb-true, eqb, lit<, get_or, set, length, get_or-set_same, get_or-set_other}
+use Rattle.std.proofs.Common.{ℕ, zero, suc, ◌+◌, ◌*◌, ◌<◌, ◌≤◌, zero-le, le_refl, arith, ◌≡◌, ap, ◌∙◌, List, eqb-true, eqb, lit<, get_or, set, length, get_or-set_same, get_or-set_other}
 use borrow.Author.Tests.{eqb-false}
 use Rattle.sums.specs.Choice.{if_then_else, sum_to, list_to}
 use Rattle.sums.proofs.Choices.{both, cases, sum_to_step, sum_to_bound}
 use Rattle.sums.proofs.Products.{◌⊗◌}
-use Rattle.vehicle_fields.specs.Fields.{group_in_range, coefficients_in_range}
 use Rattle.vehicle_fields.specs.declared.group.Group.{Group}
 use Rattle.vehicle_fields.specs.declared.group.Coefficients.{Coefficients}
 use Rattle.warmups.specs.Parts.{period_in, TimesInRange}
 use Rattle.warmups.proofs.Decided.{number_below, tenths_most}
-use Rattle.vehicles.specs.Parts.{in_period, day_run, month_period, month_warmup, month_run, month_idle, activity_of, warmup_parts, run_parts, ActivityInRange}
+use Rattle.vehicles.specs.Parts.{in_period, day_run, month_period, month_warmup, month_run, month_idle, activity_of, warmup_parts, run_parts, GroupInRange, CoefficientsInRange, ActivityInRange}
 use Rattle.vehicles.specs.declared.activity.Activity.{Activity}
-use Rattle.vehicles.proofs.Ranges.{ranged, twice, days, three, warmup, run, idle}
+use Rattle.vehicles.proofs.Ranges.{three}
 
 module _ (g : Group) (bs : List ℕ) (f : ℕ → ℕ) where
   -- the totals of the periods in a list, with one month more, whose period is q
@@ -49,30 +48,40 @@ unfolding sum_to
 weighted b n a s h e =
     omega (arith, h 0 (lit< tt) ⊗ le_refl (s 0), h 1 (lit< tt) ⊗ le_refl (s 1), h 2 (lit< tt) ⊗ le_refl (s 2), le_refl b ⊗ e)
 
-module _ (k : Coefficients) (a : Activity) (h : coefficients_in_range k ≡ true) (e : ActivityInRange a) where
+module _ (k : Coefficients) (a : Activity) (h : CoefficientsInRange k) (e : ActivityInRange a) where
   pub warmup_parts_lem : warmup_parts k a ≤ 111600000000
-  warmup_parts_lem = weighted 1000000 111600 _ _ (warmup k h) e.warmup
+  warmup_parts_lem = weighted 1000000 111600 _ _ h.warmup e.warmup
 
   pub run_parts_lem : run_parts k a ≤ 29760000000000
-  run_parts_lem = weighted 1000000 29760000 _ _ (run k h) e.run
+  run_parts_lem = weighted 1000000 29760000 _ _ h.run e.run
 
   pub idle_parts : k.idle.0 * a.idle.0 ≤ 186000000000
-  idle_parts = idle k h ⊗ e.idle
+  idle_parts = h.idle ⊗ e.idle
 
 -- what a group in range does in a day, in a month and in a year
-module _ (g : Group) (h : group_in_range g ≡ true) where
+module _ (g : Group) (r : GroupInRange g) where
   pub day_run_lem : (day_run g).0 ≤ 80000
-  day_run_lem = let r = ranged g h in add-le-add (twice g.outward r.outward) (twice g.inward r.inward)
+  day_run_lem = omega arith
 
   pub run_most : (m : ℕ) → m < 12 → month_run g m ≤ 2480000
-  run_most m p = days g.days (ranged g h).days m p ⊗ day_run_lem
+  run_most m p = r.days m p ⊗ day_run_lem
 
   pub idle_most : (m : ℕ) → m < 12 → month_idle g m ≤ 15500
-  idle_most m p = let r = ranged g h in days g.days r.days m p ⊗ (le_refl 2 ⊗ r.idle)
+  idle_most m p = r.days m p ⊗ (le_refl 2 ⊗ r.idle)
+
+  pub idle_so_far : (n : ℕ) → n ≤ 12 → sum_to n (month_idle g) ≤ 186000
+  idle_so_far n l = omega (arith, sum_to_bound 15500 (month_idle g) n (λ m q. idle_most m (omega arith)))
+
+  module _ (bs : List ℕ) where
+    pub run_so_far : (n p : ℕ) → n ≤ 12 → in_period g bs (month_run g) n p ≤ 29760000
+    run_so_far n p l = omega (arith, alone g bs (month_run g) 2480000 n (λ m q. run_most m (omega arith)) p)
 
   module _ (times : List ℕ) (t : TimesInRange times) (bs : List ℕ) where
     pub warmup_most : (m : ℕ) → m < 12 → month_warmup times g bs m ≤ 9300
-    warmup_most m p = days g.days (ranged g h).days m p ⊗ tenths_most times t g (ranged g h).timed (get_or bs m 0)
+    warmup_most m p = r.days m p ⊗ tenths_most times t g r.timed (get_or bs m 0)
+
+    pub warmup_so_far : (n p : ℕ) → n ≤ 12 → in_period g bs (month_warmup times g bs) n p ≤ 111600
+    warmup_so_far n p l = omega (arith, alone g bs (month_warmup times g bs) 9300 n (λ m q. warmup_most m (omega arith)) p)
 
     pub activity_in_range : ActivityInRange (activity_of times g bs)
     unfolding activity_of list_to sum_to

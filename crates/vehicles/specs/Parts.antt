@@ -1,5 +1,5 @@
 -- What inner functions compute: the rule's fractions as whole numbers of parts. The proofs show that they are the fractions of Rules.
-use Rattle.std.specs.Prelude.{ℕ, ◌+◌, ◌*◌, ◌/◌, ◌≤◌, List, eqb, get_or, Ok}
+use Rattle.std.specs.Prelude.{ℕ, ◌+◌, ◌*◌, ◌/◌, ◌<◌, ◌≤◌, List, eqb, get_or, Ok}
 use Rattle.sums.specs.Choice.{if_then_else, sum_to, list_to}
 use Rattle.sums.specs.Figures.{tonne_parts, gram_parts, annual_of, peak_of}
 use Rattle.sums.specs.declared.answer.Emission.{Emission}
@@ -112,10 +112,30 @@ answer_in g c ks =
     (if_then_else (zero_where_due g ks) (Ok (emissions_in standard_factors g c ks)) (refused_by SootOrLead))
     (refused_by OutOfRange)
 
--- how large they are at most: a year's minutes and metres over all three periods
+-- how large they are at most: what the range tests say, and a year's minutes and metres over all three periods
+pub record DistancesInRange (d : Distances) : Type 0 where
+  pub nearest : d.nearest.0 ≤ 20000
+  pub farthest : d.farthest.0 ≤ 20000
+
 pub record NeutraliserInRange (n : Neutraliser) : Type 0 where
   pub running : n.running ≤ 100
   pub warming : n.warming ≤ 100
+
+pub record GroupInRange (g : Group) : Type 0 where
+  pub vehicles : g.vehicles ≤ 10000
+  pub leaving : g.leaving ≤ 10000
+  pub share : g.share ≤ 100
+  pub neutraliser : NeutraliserInRange g.neutraliser
+  pub idle : g.idle.0 ≤ 250
+  pub outward : DistancesInRange g.outward
+  pub inward : DistancesInRange g.inward
+  pub days : (m : ℕ) → m < 12 → get_or g.days m 0 ≤ 31
+  pub timed : g.timed.0 ≤ 250
+
+pub record CoefficientsInRange (k : Coefficients) : Type 0 where
+  pub warmup : (p : ℕ) → p < 3 → (get_or k.warmup p no_minute).0 ≤ 1000000
+  pub run : (p : ℕ) → p < 3 → (get_or k.run p no_kilometre).0 ≤ 1000000
+  pub idle : k.idle.0 ≤ 1000000
 
 pub record ActivityInRange (a : Activity) : Type 0 where
   pub warmup : sum_to 3 (λ (p : ℕ). (get_or a.warmup p (tenths 0)).0) ≤ 111600

@@ -1,4 +1,5 @@
-// What one vehicle of a group does in a year. Only the coefficients' period and the warm-up depend on the month, so the months of a period are one sum.
+// What one vehicle of a group does in a year. Of what it does in a day only the coefficients' period and the warm-up depend on the month, so the months of a period are one
+// sum.
 ghost use Rattle.std.specs.Prelude.{◌≡◌};
 ghost use Rattle.vehicles.specs.Parts.{activity_of, day_run, day_idle};
 
@@ -32,6 +33,7 @@ impl Sound {
     }
 
     // The year, in months of these bands.
+    #[tactic(auto, using(warmups::proofs::Decided::conditions_in_range, crate::proofs::Periods::day_run_lem, crate::proofs::Periods::idle_so_far, crate::proofs::Periods::run_so_far, crate::proofs::Periods::warmup_so_far))]
     pub(crate) fn activity(&self, bands: [u8; 12]) -> Activity
         ensures { result ≡ activity_of self.now.times self.now.group bands }
     {
@@ -41,6 +43,7 @@ impl Sound {
         let mut minutes = [Minutes(0); 3];
         let mut metres = [Metres(0); 3];
         let mut idling = Minutes(0);
+        // By the month's number: what is summed so far is of the months before it.
         for (i, band) in bands.iter().enumerate() {
             let w = warmups::conditions_in(self.times, self.group, *band);
             let period = w.period.place();

@@ -74,7 +74,7 @@ impl Measure for Metres {
     }
 }
 
-// n times x more.
+// n times x more. The bounds keep it within 32 bits; that a year's minutes and metres are within them only the loop over its months knows.
 pub(crate) fn more<M: Measure>(total: M, n: u8, x: M) -> M
     requires { (M.count total ≤ 1000000000) × (M.count x ≤ 80000) }
     ensures { M.count result ≡ M.count total + n * M.count x }
@@ -88,7 +88,8 @@ pub(crate) fn times<M: Measure>(k: M::Per, x: M) -> u64
     u64::from(M::rate(k)) * u64::from(x.count())
 }
 
-// Over the three periods, each with its coefficient.
+// Over the three periods, each with its coefficient: three terms, by `zip`, `map` and `sum` no shorter. Their sum could pass 64 bits; that it does not only its caller
+// knows, of the coefficients in range.
 #[tactic(auto, unfolding(sums::specs::Choice::sum_to))]
 pub(crate) fn over_periods<M: Measure>(ks: [M::Per; 3], xs: [M; 3]) -> u64
     requires { sum_to 3 (λ p. M.rate (get_or ks p M.free) * M.count (get_or xs p M.none)) ≤ 29760000000000 }

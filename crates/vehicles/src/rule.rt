@@ -1,39 +1,20 @@
 // What a vehicle group gives of each pollutant.
-ghost use Rattle.std.specs.Prelude.{◌≡◌, true};
-ghost use Rattle.vehicle_fields.specs.Fields.{group_in_range, all_in_range};
-ghost use Rattle.vehicle_factors.specs.Factors.{factors_in_range};
+ghost use Rattle.std.specs.Prelude.{◌≡◌};
 ghost use Rattle.vehicles.specs.Rules.{group_answer};
-ghost use Rattle.vehicles.specs.Parts.{emissions_in, answer_in};
+ghost use Rattle.vehicles.specs.Parts.{answer_in};
 
-use super::sound::Sound;
+use super::control;
+use super::sound::{Pollutant, Sound};
 use super::year::Year;
 use sums::{Emission, Reason, Refusal};
-use vehicle_factors::Factors;
 use vehicle_fields::{Coefficients, Group, POLLUTANTS};
 use warmups::Climate;
 
 // How many emissions a group's answer holds: one for each pollutant.
 pub const EMISSIONS: usize = POLLUTANTS;
 
-fn emissions_in(
-    f: Factors,
-    g: Group,
-    c: Climate,
-    ks: [Coefficients; POLLUTANTS],
-) -> [Emission; EMISSIONS]
-    requires { (factors_in_range f ≡ true) × (group_in_range g ≡ true) × (all_in_range ks ≡ true) }
-    ensures { result ≡ emissions_in f g c ks }
-{
-    let year = Year::of(Sound::of(f, g), c);
-    // Not `array::from_fn`, whose promise does not say of each call that what the closure captures is still as it was.
-    let mut emissions = [Emission::none(); EMISSIONS];
-    for (p, k) in ks.iter().enumerate() {
-        emissions[p] = year.emission(*k, p);
-    }
-    emissions
-}
-
-// In a climate, which many groups share.
+// In a climate, which many groups share. A group and its coefficients are two parameters, as 01 names them.
+#[tactic(auto, unfolding(crate::specs::Parts::answer_in, sums::specs::Choice::if_then_else))]
 pub fn emissions_in_climate(
     g: Group,
     c: Climate,
@@ -47,9 +28,31 @@ pub fn emissions_in_climate(
     if !vehicle_fields::zero_where_due(g, ks) {
         return Err(Refusal::of_source(Reason::SootOrLead));
     }
-    Ok(emissions_in(vehicle_factors::standard_factors(), g, c, ks))
+    let factors = vehicle_factors::standard_factors();
+    let sound = Sound {
+        group: g,
+        times: warmups::times_of(factors, g.category),
+    };
+    let year = Year::of(sound, c);
+    let codes = control::codes_of(g.fuel);
+    let controls = control::controls_of(&factors, &g);
+    // Not `array::from_fn`, whose promise does not say of each call that what the closure captures is still as it was.
+    let mut emissions = [Emission::none(); EMISSIONS];
+    for (p, k) in ks.iter().enumerate() {
+        let pollutant = Pollutant {
+            coefficients: *k,
+            control: controls[p],
+        };
+        emissions[p] = Emission {
+            code: codes[p],
+            annual: year.annual(&pollutant),
+            peak: year.peak(&pollutant),
+        };
+    }
+    Ok(emissions)
 }
 
+#[tactic(auto, using(crate::proofs::Ranges::in_range_is, crate::proofs::Paper::answered), unfolding(crate::specs::Rules::group_answer, sums::specs::Choice::if_then_else))]
 pub fn group_emissions(
     g: Group,
     ts: [i16; 12],

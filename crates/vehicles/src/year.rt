@@ -1,16 +1,13 @@
-// What a vehicle group gives of one pollutant, from its year and its coldest month.
-ghost use Rattle.std.specs.Prelude.{◌≡◌, true, ◌*◌, ◌<◌, ◌≤◌};
+// What a vehicle group gives of a pollutant, from its year and its coldest month.
+ghost use Rattle.std.specs.Prelude.{◌≡◌, ◌*◌, ◌≤◌};
 ghost use Rattle.sums.specs.Figures.{annual_of, peak_of};
-ghost use Rattle.vehicle_fields.specs.Fields.{pollutant_count, coefficients_in_range};
 ghost use Rattle.warmups.specs.Parts.{ConditionsInRange, conditions_in};
-ghost use Rattle.vehicles.specs.Rules.{pollutant_code};
-ghost use Rattle.vehicles.specs.Parts.{ActivityInRange, activity_of, year_units, peak_units, year_parts, out_parts, emission_parts};
+ghost use Rattle.vehicles.specs.Parts.{ActivityInRange, activity_of, year_units, peak_units, year_parts, out_parts};
 
 use super::activity::Activity;
 use super::sound::{Pollutant, Sound};
-use super::{arithmetic, control, trip};
-use sums::{AnnualSum, Emission, PeakSum};
-use vehicle_fields::{Coefficients, POLLUTANTS};
+use super::{arithmetic, trip};
+use sums::{AnnualSum, PeakSum};
 use warmups::{Climate, Conditions};
 
 // A group in a climate: what one of its vehicles does in the year, and what its coldest month decides.
@@ -23,23 +20,11 @@ pub(crate) struct Year {
     ghost coldest_ranged: { ConditionsInRange coldest },
 }
 
-// Exact units in a 200,000,000,000,000,000th of a tonne, and in a 7,200,000,000,000th of a gram per second: 100 and 100.
+// Exact units in a 200,000,000,000,000,000th of a tonne, and in a 7,200,000,000,000th of a gram per second: 100 and 100. In a
+// constant only `as` narrows.
 const YEAR_UNITS: u32 = (AnnualSum::DENOMINATOR / 200_000_000_000) as u32;
 
 const PEAK_UNITS: u64 = PeakSum::DENOMINATOR / 720_000;
-
-const PETROL_CODES: [u16; POLLUTANTS] = [337, 2704, 301, 328, 330, 184];
-
-const DIESEL_CODES: [u16; POLLUTANTS] = [337, 2754, 301, 328, 330, 184];
-
-#[tactic(auto, unfolding(crate::specs::Rules::pollutant_code, sums::specs::Choice::if_then_else))]
-fn pollutant_code(fuel: u8, place: usize) -> u16
-    requires { place < pollutant_count }
-    ensures { result ≡ pollutant_code fuel place }
-{
-    let row = control::of_fuel(fuel, &PETROL_CODES, &DIESEL_CODES);
-    row[place]
-}
 
 impl Year {
     pub(crate) fn of(sound: Sound, c: Climate) -> Self
@@ -53,6 +38,7 @@ impl Year {
     }
 
     // A year of one vehicle, in 2,000,000,000ths of a gram.
+    #[tactic(auto, using(crate::proofs::Periods::warmup_parts_lem, crate::proofs::Periods::run_parts_lem, crate::proofs::Periods::idle_parts, crate::proofs::Bounds::year_most), unfolding(crate::specs::Parts::year_parts, sums::specs::Choice::sum_to))]
     fn mass(&self, p: &Pollutant) -> u64
         ensures { (result ≡ year_parts self.now.sound.group p.now.coefficients p.now.control self.now.activity) × (result ≤ 8928000000000000) }
     {
@@ -69,7 +55,7 @@ impl Year {
 
     // 2,000,000,000ths of a gram times a percentage are 200,000,000,000,000,000ths of a tonne.
     #[tactic(auto, using(sums::proofs::Wrapping::words_times))]
-    fn annual(&self, p: &Pollutant) -> AnnualSum
+    pub(crate) fn annual(&self, p: &Pollutant) -> AnnualSum
         ensures { result ≡ annual_of (year_parts self.now.sound.group p.now.coefficients p.now.control self.now.activity * self.now.sound.group.share * (self.now.sound.group.vehicles * year_units)) }
     {
         let g = &self.sound.group;
@@ -77,26 +63,9 @@ impl Year {
     }
 
     // 2,000,000,000ths of a gram over 3,600 seconds are 7,200,000,000,000ths of a gram per second. The product fits 64 bits, so a peak is one word.
-    fn peak(&self, p: &Pollutant) -> PeakSum
+    pub(crate) fn peak(&self, p: &Pollutant) -> PeakSum
         ensures { result ≡ peak_of (out_parts self.now.sound.group p.now.coefficients p.now.control self.now.coldest * self.now.sound.group.leaving * peak_units) }
     {
         PeakSum::of(self.outward(p) * u64::from(self.sound.group.leaving) * PEAK_UNITS)
-    }
-
-    // Of the pollutant at a place.
-    #[tactic(auto, using(crate::proofs::Ranges::control_most), unfolding(crate::specs::Parts::emission_parts))]
-    pub(crate) fn emission(&self, coefficients: Coefficients, place: usize) -> Emission
-        requires { (coefficients_in_range coefficients ≡ true) × (place < pollutant_count) }
-        ensures { result ≡ emission_parts self.now.sound.factors self.now.sound.group coefficients place self.now.activity self.now.coldest }
-    {
-        let p = Pollutant {
-            coefficients,
-            control: self.sound.control(place),
-        };
-        Emission {
-            code: pollutant_code(self.sound.group.fuel, place),
-            annual: self.annual(&p),
-            peak: self.peak(&p),
-        }
     }
 }

@@ -25,7 +25,7 @@ use Rattle.slot_file.specs.Figures.{group_contributions, store_contributions, lo
 use Rattle.slot_file.specs.Alike.{total}
 use Rattle.slot_file.specs.Parts.{parts_to}
 use Rattle.totals.proofs.Sums.{total_list_to}
-use Rattle.walk.specs.Walked.{units_of}
+use Rattle.walk.specs.FileWalked.{units_of}
 use Rattle.slot_file.proofs.Ranged.{group_in_range_lem, row_in_range, store_in_range, store_answered, locomotive_in_range_lem}
 
 -- of either kind of sum

@@ -1,13 +1,10 @@
 -- The figures of a file's sums are those of its exact sums: the sums have as many exact units (`Units`), drop none (`Bounded`), and one number has one figure.
 -- Assumes nothing.
-use Rattle.std.proofs.Common.{ℕ, ◌+◌, ◌*◌, ◌%◌, ◌^◌, ◌<◌, ◌≤◌, arith, lt_of_le_of_lt, add-le-add, le_refl, ◌≡◌, refl, sym, ap, ◌∙◌, List, [], ◌∷◌, map, reverse, lit<, get_or, eq-eqb}
+use Rattle.std.proofs.Common.{ℕ, ◌+◌, ◌*◌, ◌%◌, ◌^◌, ◌<◌, ◌≤◌, arith, lt_of_le_of_lt, add-le-add, le_refl, ◌≡◌, sym, ap, ◌∙◌, List, [], ◌∷◌, map, reverse, lit<}
 use mathlib.Core.List.{reverse_aux}
-use Rattle.sums.specs.Choice.{list_to}
 use Rattle.sums.specs.Fraction.{Frac, ◌over◌, whole, ◌⊙◌, ◌≈◌, parts_of}
-use Rattle.sums.specs.Figures.{annual_denominator, peak_denominator, units_in, words_of, nearest, sum_in, annual_of, peak_of, annual_rounded, peak_rounded}
+use Rattle.sums.specs.Figures.{AnnualSum, PeakSum, annual_denominator, peak_denominator, units_in, words_of, nearest, annual_of, peak_of, annual_rounded, peak_rounded}
 use Rattle.sums.specs.Answer.{Contribution}
-use Rattle.sums.specs.declared.words.Words.{Words}
-use Rattle.sums.proofs.Choices.{yes, list_to_same}
 use Rattle.sums.specs.Exactness.{annual_most, peak_most, sources_most, Bounded}
 use Rattle.sums.proofs.Exact.{figure_exact}
 use Rattle.sums.proofs.Figure.{nearest_same}
@@ -15,14 +12,15 @@ use Rattle.locomotive_fields.specs.declared.fields.Locomotive.{Locomotive}
 use Rattle.slots.specs.declared.store.StoreRecord.{StoreRecord}
 use Rattle.slot_file.specs.Sources.{VehicleGroup, group_at, store_at, locomotive_at, temperatures_at, Chains, inventory_at}
 use Rattle.slot_file.specs.Meaning.{Accepts}
-use Rattle.slot_file.specs.Codes.{codes, code_count}
+use Rattle.slot_file.specs.Codes.{codes}
 use Rattle.slot_file.specs.Figures.{group_contributions, store_contributions, locomotive_contributions, contributions, exact_sum, annual_figure, peak_figure}
 use Rattle.slot_file.specs.Alike.{total}
 use Rattle.slot_file.proofs.Units.{Units, total_contributions, exact_parts}
 use Rattle.slot_file.specs.Parts.{parts_to}
-use Rattle.totals.specs.Totals.{annual_in, peak_in, figures_of, figures_in, column, Sums}
-use Rattle.walk.specs.Walked.{units_of, sums_of}
-use Rattle.walk.proofs.Passing.{sources_short}
+use Rattle.totals.specs.Totals.{figures_in, column, Sums}
+use Rattle.totals.specs.declared.Totals.{Totals}
+use Rattle.slot_file.proofs.Outcomes.{locomotives_short}
+use Rattle.walk.specs.FileWalked.{units_of, sums_of}
 use Rattle.walk.proofs.Bounded.{file_most}
 
 -- a total does not go by the order
@@ -60,7 +58,7 @@ module _ (s : List ℕ) (b : Chains) where
 
       units_most : units + d < 2 ^ 64 * d
       units_most =
-          let m = file_most f (u * d) most bound c s b a.groups a.stores a.locomotives (sources_short s a.head b a.groups a.stores a.locomotives) in
+          let m = file_most f (u * d) most bound c s b a.groups a.stores a.locomotives (locomotives_short s a.head b 0 a.groups a.stores a.locomotives) in
           lt_of_le_of_lt (add-le-add m (le_refl d)) room
 
       figured : nearest (units_in (words_of units) over d) % 2 ^ 64 ≡ nearest (exact_sum f c (contributions (inventory_at s b)) ⊙ whole u)
@@ -83,15 +81,11 @@ module _ (s : List ℕ) (b : Chains) where
         (λ (n : ℕ) (x : Contribution) (b : Bounded n x.tonnes x.rate). b.peak)
 
     -- the figures by code are those of the answer
-    pub file_figures : (l : List ℕ) → Sums (sums_of s b) l → figures_in l ≡ record {
+    pub file_figures : (t : Totals) → Sums (sums_of s b) t → figures_in t ≡ record {
       annual = map (annual_figure (contributions (inventory_at s b))) codes;
       peak = map (peak_figure (contributions (inventory_at s b))) codes;
     }
-    unfolding figures_in figures_of list_to
-    file_figures l h =
-        let xs = contributions (inventory_at s b) in
-        let a = list_to_same code_count (annual_in l) (λ (p : ℕ). annual_figure xs (get_or codes p 0))
-        (λ p k. ap (λ (m : Words). annual_rounded (sum_in m) % 2 ^ 64) (h.sums_are 0 p (lit< tt) k) ∙ annual_figured (get_or codes p 0)) in
-        let p = list_to_same code_count (peak_in l) (λ (p : ℕ). peak_figure xs (get_or codes p 0))
-        (λ p k. ap (λ (m : Words). peak_rounded (sum_in m) % 2 ^ 64) (h.sums_are 1 p (lit< tt) k) ∙ peak_figured (get_or codes p 0)) in
-        sym (yes _ _ _ _ (eq-eqb _ _ h.room) refl) ∙ (λ i. record { annual = a i; peak = p i })
+    unfolding figures_in
+    file_figures t h =
+        (λ i. record { annual = map (λ (x : AnnualSum). annual_rounded x % 2 ^ 64) (h.annual_are i); peak = map (λ (x : PeakSum). peak_rounded x % 2 ^ 64) (h.peak_are i) })
+        ∙ (λ i. record { annual = map (λ (c : ℕ). annual_figured c i) codes; peak = map (λ (c : ℕ). peak_figured c i) codes })

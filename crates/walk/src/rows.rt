@@ -1,10 +1,11 @@
 // A group's coefficient slots.
-ghost use Rattle.std.specs.Prelude.{◌≡◌, ◌≤◌, length};
+ghost use Rattle.std.specs.Prelude.{◌≡◌};
 ghost use Rattle.slots.specs.Bytes.{slot_of};
 ghost use Rattle.slots.specs.Layout.{first_of};
-ghost use Rattle.slot_file.specs.Questions.{most_bytes};
 ghost use Rattle.walk.specs.Rows.{RowsRead};
 
+use super::headed::Headed;
+use questions::Link;
 use slot_file::MOST_SLOTS;
 use sums::{Reason, Refusal};
 use vehicle_fields::{Coefficients, POLLUTANTS, PerKilometre, PerMinute};
@@ -16,30 +17,35 @@ const NO_ROW: Coefficients = Coefficients {
     idle: PerMinute(0),
 };
 
-// The coefficient links of the group g, from `first` on; each slot is marked as reached. It ends after one link for each pollutant, wherever they lead.
+// The coefficient links of the group g, from `first` on, which is its slot's, as only the chain knows; each slot is marked as reached. It ends after one link for each
+// pollutant, wherever they lead. A loop fills the rows, since it hands on the link and the marks, which a closure would have to carry.
 pub(crate) fn read_rows(
-    file: &[u8],
+    file: &Headed,
     reached: &mut [bool; MOST_SLOTS],
     g: u16,
     first: u16,
 ) -> Result<[Coefficients; POLLUTANTS], Refusal>
-    requires { (length file.now ≤ most_bytes) × (first ≡ first_of (slot_of file.now g)) }
-    ensures { RowsRead file.now g reached.old reached.new result }
+    requires { first ≡ first_of (slot_of file.now.bytes.now g) }
+    ensures { RowsRead file.now.bytes.now g reached.old reached.new result }
 {
     let mut coefficients = [NO_ROW; POLLUTANTS];
-    let mut holder = g;
-    let mut link = first;
+    let mut link = Link {
+        holder: g,
+        slot: first,
+    };
     for n in 0..POLLUTANTS {
-        questions::ask_row(file, holder, link)?;
-        let k = link as usize;
-        let row = questions::ask_slot(slots::read_coefficients(file, k), link)?;
-        let in_turn = row.pollutant as usize == n + 1;
-        questions::ask(in_turn, Reason::CoefficientChain, link)?;
+        questions::ask_row(file.bytes, link)?;
+        let k = usize::from(link.slot);
+        let row = questions::ask_slot(slots::read_coefficients(file.bytes, k), link.slot)?;
+        let in_turn = usize::from(row.pollutant) == n + 1;
+        questions::ask(in_turn, Reason::CoefficientChain, link.slot)?;
         coefficients[n] = row.coefficients;
         reached[k] = true;
-        holder = link;
-        link = row.next;
+        link = Link {
+            holder: link.slot,
+            slot: row.next,
+        };
     }
-    questions::ask(link == 0, Reason::CoefficientChain, holder)?;
+    questions::ask(link.slot == 0, Reason::CoefficientChain, link.holder)?;
     Ok(coefficients)
 }

@@ -1,10 +1,9 @@
 -- A band decides the period that the temperature has; the minutes of an untimed and of a timed group; and what a band decides is in range. Assumes nothing.
-use Rattle.std.proofs.Common.{ℕ, suc, ◌<◌, ◌≤◌, arith, ◌≡◌, refl, Bool, true, false, List, ne_eqb, eqb, lit<, ℤ, pos, get_or}
-use lib.Signed.{lt_z}
+use Rattle.std.proofs.Common.{ℕ, ◌<◌, ◌≤◌, arith, ◌≡◌, refl, true, false, List, ne_eqb, eqb, lit<, ℤ, pos, get_or}
+use Rattle.std.proofs.lemmas.Bool.Decides.{nat_tests}
 use Rattle.sums.specs.Choice.{if_then_else}
 use Rattle.sums.specs.Fraction.{◌over◌}
 use Rattle.sums.proofs.Choices.{both, list_to_at}
-use Rattle.vehicle_fields.specs.Fields.{minus}
 use Rattle.vehicle_fields.specs.declared.group.Group.{Group}
 use Rattle.vehicle_factors.specs.Factors.{factors_in_range}
 use Rattle.vehicle_factors.specs.declared.Factors.{Factors}
@@ -18,13 +17,7 @@ use Rattle.warmups.specs.Parts.{climate_of, number_of, band_period, period_in, c
 -- both are counted from 5.0 and then from -5.0
 of_band : (t : ℤ) → period_of t ≡ number_of (band_period (warmup_band t))
 unfolding place below if_then_else
-of_band t = go (lt_z (pos 50) t) (lt_z t (minus 50)) _
-  where
-    go : (a b : Bool) (n : ℕ) →
-        if_then_else a 0 (suc (if_then_else b 1 0)) ≡ number_of (band_period (if_then_else a 0 (suc (if_then_else b (suc n) 0))))
-    go true b n = refl
-    go false true n = refl
-    go false false n = refl
+of_band t = grind (arith, nat_tests)
 
 pub period_same : (g : Group) (t : ℤ) → period_at g t ≡ number_of (period_in g (warmup_band t))
 unfolding period_at period_in if_then_else
@@ -56,13 +49,10 @@ times_in_range f h category band =
     let At : List ℕ → Type 0 = λ (l : List ℕ). get_or l band 0 ≤ 300 in
     both At (eqb category 1) (r.car band) (both At (eqb category 2) (r.truck band) (r.bus band))
 
-abbrev Most : ℕ → Type 0
-Most n = n ≤ 300
-
 module _ (times : List ℕ) (h : TimesInRange times) (g : Group) (t : g.timed.0 ≤ 250) (band : ℕ) where
   pub tenths_most : tenths_in times g band ≤ 300
   unfolding tenths_in untimed_in
-  tenths_most = both Most (eqb g.timed.0 0) (both Most g.heated (omega arith) (h band)) (omega arith)
+  tenths_most = let Most : ℕ → Type 0 = λ (n : ℕ). n ≤ 300 in both Most (eqb g.timed.0 0) (both Most g.heated (omega arith) (h band)) (omega arith)
 
   pub conditions_in_range : ConditionsInRange (conditions_in times g band)
   unfolding conditions_in

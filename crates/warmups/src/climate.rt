@@ -4,8 +4,8 @@ ghost use Rattle.warmups.specs.Parts.{climate_of};
 
 use super::temperature;
 
-// The band of each month, and that of the lowest temperature, as `climate_of` makes them. A band past the last has no minutes: a rule that is asked by temperatures
-// tests those, and never meets one.
+// The band of each month, and that of the lowest temperature, as `climate_of` makes them. A band is a number and no enum: it looks up the minutes of a row, and seven names
+// would say no more. One past the last has no minutes; a rule that is asked by temperatures tests those, and never meets one.
 #[derive(Clone, Copy)]
 pub struct Climate {
     pub bands: [u8; 12],

@@ -2,6 +2,7 @@
 ghost use Rattle.std.specs.Prelude.{◌≡◌};
 ghost use Rattle.warmups.specs.Temperatures.{lowest_of, warmup_band};
 
+// A loop, since `min` of an iterator answers an `Option`, with a case of no temperatures that never is.
 #[tactic(auto, using(crate::proofs::Edges::kept, crate::proofs::Edges::lower), unfolding(crate::specs::Temperatures::lowest_to))]
 pub(crate) fn lowest(ts: [i16; 12]) -> i16
     ensures { result ≡ lowest_of ts }

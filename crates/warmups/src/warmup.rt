@@ -15,7 +15,7 @@ pub enum Period {
 }
 
 impl Period {
-    // Its place in what is given for each period.
+    // Its place in what is given for each period: its discriminant, which `as` alone gives. A method and no `From`, since the name says what the number is for.
     pub fn place(self) -> usize
         ensures { (result ≡ number_of self) × (result < 3) }
     {
@@ -42,13 +42,14 @@ pub fn times_of(f: Factors, category: u8) -> [u16; BANDS]
     }
 }
 
-// The time at a band; 0 past the last, which no temperature has.
+// The time at a band; 0 past the last, which no temperature has: the definition gives 0 there, and an `Option` would be taken apart by the one caller.
 fn time_at(times: [u16; BANDS], band: u8) -> u32
     ensures { result ≡ get_or times band 0 }
 {
     times.get(usize::from(band)).map_or(0, |t| u32::from(*t))
 }
 
+// Times and group are two parameters, here and below: the type that has both, `Sound`, is of `vehicles` and holds bounds, which nothing here asks.
 #[tactic(auto, unfolding(crate::specs::Warmup::untimed_in, sums::specs::Choice::if_then_else))]
 fn untimed_in(times: [u16; BANDS], g: Group, band: u8) -> Minutes
     ensures { result ≡ tenths (untimed_in times g band) }

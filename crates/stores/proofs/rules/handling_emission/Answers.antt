@@ -1,24 +1,14 @@
--- In range, the sums of the parts are those of the fractions.
-use Rattle.std.proofs.Common.{refl, sym, ap, ◌∙◌, Ok}
-use Rattle.sums.proofs.Choices.{yes, no}
-use Rattle.stores.specs.Rules.{handling_answer}
+-- The bounds of the factors keep each product in 64 bits.
+use Rattle.std.proofs.Common.{le_refl, sym, ◌∙◌}
+use mir.Facts.{Fits-below}
+use Rattle.sums.proofs.Products.{◌⊗◌}
 use Rattle.stores.proofs.Ranges.{handling}
-use Rattle.stores.proofs.Paper.{summed, handling_counted}
 use Rattle.stores.proofs.rules.handling_emission.Goals as goal
 
-pub returns-then-not-handling_in_range : goal.returns-then-not-handling_in_range
-unfolding handling_answer
-returns-then-not-handling_in_range c = no _ _ _ _ (sym c.handling_in_range.ensures ∙ c.if-not-handling_in_range.true) refl
+pub overflow_mul-parts-4 : goal.overflow_mul-parts-4
+overflow_mul-parts-4 c = Fits-below tt (le_refl 5 ⊗ c.k1.ensures.1 ⊗ c.k2.ensures.1 ⊗ c.exposure.ensures.1 ⊗ c.drop_factor.ensures.1)
 
-pub handling_parts-requires : goal.handling_parts-requires
-handling_parts-requires c = sym c.handling_in_range.ensures ∙ c.if-not-handling_in_range.false
-
-pub bulk_emission-requires : goal.bulk_emission-requires
-bulk_emission-requires c = (handling _ (sym c.handling_in_range.ensures ∙ c.if-not-handling_in_range.false)).bulk.dust
-
-pub returns : goal.returns
-unfolding handling_answer
-returns c =
-    let h = c.args.h in
-    yes _ _ _ _ (sym c.handling_in_range.ensures ∙ c.if-not-handling_in_range.false)
-    (ap Ok (rw (c.bulk_emission.ensures, c.handling_parts.ensures) (summed h.bulk.dust (handling_counted h))))
+pub overflow_mul-parts-5 : goal.overflow_mul-parts-5
+overflow_mul-parts-5 c =
+    let h = handling _ (sym c.handling_in_range.ensures ∙ c.if-not-handling_in_range.false) in
+    rw c.from.ensures (Fits-below tt (le_refl 5 ⊗ c.k1.ensures.1 ⊗ c.k2.ensures.1 ⊗ c.exposure.ensures.1 ⊗ c.drop_factor.ensures.1 ⊗ h.bulk.amount))

@@ -3,6 +3,6 @@ use Rattle.sums.proofs.LongDivision.{next_digit}
 use Rattle.sums.proofs.mixed.two_words.Goals as goal
 
 pub loop-bits-preserved : goal.loop-bits-preserved
-loop-bits-preserved c =
+loop-bits-preserved g c =
     let next = c.step-next.ensures in
-    (next_digit c.args.d _ _ _ c.requires.least c.loop-bits-test.true c.loop-bits.invariant.0 next.0 next.1, next.2)
+    (next_digit g.U.Unit.DENOMINATOR _ _ _ g.U.Unit.divides.least c.loop-bits-test.true c.loop-bits.invariant.0 next.0 next.1, next.2)

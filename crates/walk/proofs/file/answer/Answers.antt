@@ -11,9 +11,6 @@ use Rattle.slot_file.specs.Sources.{inventory_at}
 use Rattle.walk.proofs.FileFigures.{file_figures}
 use Rattle.walk.proofs.file.answer.Goals as goal
 
-pub walk_file-requires : goal.walk_file-requires
-walk_file-requires c = c.none-totals.ensures
-
 pub returns-in_err-counts : goal.returns-in_err-counts
 returns-in_err-counts c =
     let s = c.args.file.now in
@@ -25,8 +22,8 @@ unfolding summed
 returns c =
     let s = c.args.file.now in
     let a = c.in_ok-counts.ensures in
-    let f = c.rounded-figures.ensures ∙ file_figures s a.c a.accepts _ (a.holds.sums_are refl) in
-    let n = a.holds.counts_are ∙ sym (summed_counts s a.c) in
-    let e : ◌≡◌ {A = Answer} (record { annual = c.rounded-figures.result.annual; peak = c.rounded-figures.result.peak; counts = c.in_ok-counts.counts }) (summed (inventory_at s a.c)) =
+    let f = c.figures.ensures ∙ file_figures s a.c a.accepts _ (a.sums_are refl) in
+    let n = a.counts_are ∙ sym (summed_counts s a.c) in
+    let e : ◌≡◌ {A = Answer} (record { annual = c.figures.result.annual; peak = c.figures.result.peak; counts = c.in_ok-counts.counts }) (summed (inventory_at s a.c)) =
     λ i. record { annual = (f i).annual; peak = (f i).peak; counts = n i } in
     ap Ok e ∙ sym (accepted_answer s a.c (only s (accepted a.c) a.accepts))

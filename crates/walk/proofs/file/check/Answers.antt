@@ -1,12 +1,15 @@
 -- The walk means what the outcome means, and only one outcome does (`Outcomes.only`).
-use Rattle.std.proofs.Common.{sym, ap}
+use Rattle.std.proofs.Common.{◌≡◌, sym, ap}
 use Rattle.slot_file.specs.Questions.{accepted, refused}
-use Rattle.slot_file.specs.Walk.{told}
+use Rattle.slot_file.specs.Walk.{outcome, told}
 use Rattle.slot_file.proofs.Outcomes.{only}
+use Rattle.questions.proofs.Telling.{handed_on}
 use Rattle.walk.proofs.file.check.Goals as goal
 
-pub returns-in-Ok : goal.returns-in-Ok
-returns-in-Ok c = let a = c.in-Ok.ensures in sym (ap told (only c.args.file.now (accepted a.c) a.accepts))
+pub returns-in_err-walk_file : goal.returns-in_err-walk_file
+returns-in_err-walk_file c =
+    let s = c.args.file.now in
+    handed_on (λ r. r ≡ told (outcome s)) c.from_residual.ensures (sym (ap told (only s (refused c.in_err-walk_file.field-0.0) c.in_err-walk_file.ensures)))
 
-pub returns-in-Err : goal.returns-in-Err
-returns-in-Err c = sym (ap told (only c.args.file.now (refused c.in-Err.refusal) c.in-Err.ensures))
+pub returns : goal.returns
+returns c = let a = c.in_ok-walk_file.ensures in sym (ap told (only c.args.file.now (accepted a.c) a.accepts))

@@ -1,71 +1,96 @@
 -- Each part is told of its questions, and goes on where the part before it ended.
-use Rattle.std.proofs.Common.{◌-◌, ◌≡◌, subst, List, ℕ, Result, Ok}
+use Rattle.std.proofs.Common.{◌-◌, sym, ap, subst, ◌∙◌, List, [], length, ℕ}
 use Rattle.slots.specs.declared.header.Header.{Header}
-use Rattle.sums.specs.declared.answer.Refusal.{Refusal}
-use Rattle.slot_file.specs.Sources.{header_at}
-use Rattle.slot_file.specs.Questions.{slot_count, head_asks_of, head_asks, reached_of, reach_asks, last_asks}
-use Rattle.slot_file.specs.Meaning.{AllYes, FirstNo, at_head, at_last}
-use Rattle.slot_file.proofs.Outcomes.{sized}
-use Rattle.questions.specs.Told.{told_by}
+use Rattle.warmups.specs.Parts.{climate_of}
+use Rattle.slot_file.specs.Questions.{slot_count, reached_by, groups_so_far, stores_so_far, locomotives_so_far, reached_of, reach_asks, last_asks}
+use Rattle.slot_file.specs.Meaning.{Refuses, at_last}
+use Rattle.slot_file.proofs.Chains.{one_chain}
 use Rattle.questions.proofs.Telling.{told_ok, told_err, handed_on}
-use Rattle.walk.specs.Walked.{FileWalked}
+use Rattle.totals.specs.Totals.{Sums}
+use Rattle.totals.proofs.Sums.{sums_of_none}
+use Rattle.walk.specs.FileWalked.{FileAccepted, FileWalked}
+use Rattle.walk.specs.declared.state.State.{State}
+use Rattle.walk.proofs.GroupChain.{group_laws, groups_more}
+use Rattle.walk.proofs.StoreChain.{store_laws, stores_more}
+use Rattle.walk.proofs.LocomotiveChain.{locomotive_laws, locomotives_more}
+use Rattle.slot_file.specs.declared.Counts.{Counts}
 use Rattle.walk.proofs.file.walk_file.Goals as goal
 
--- questions 1 to 5 are answered yes
-headed : (s : List ℕ) (h : Header) {r : Result Unit Refusal} {u : Unit} → h ≡ header_at s → r ≡ told_by (head_asks_of s h) → r ≡ Ok u → AllYes (head_asks s)
-unfolding head_asks
-headed s h e t w = subst (λ (x : Header). AllYes (head_asks_of s x)) e (told_ok (head_asks_of s h) t w)
+pub returns-in_err-file : goal.returns-in_err-file
+returns-in_err-file g c = handed_on (FileWalked _ _) c.from_residual.ensures c.in_err-file.ensures
 
-pub returns-in_err-ask_head : goal.returns-in_err-ask_head
-unfolding head_asks
-returns-in_err-ask_head c =
-    let s = c.args.file.now in
-    let e = c.in_err-ask_head.field-0.0 in
-    handed_on (FileWalked _ _ _) c.from_residual.ensures
-    (at_head (subst (λ (h : Header). FirstNo (head_asks_of s h) e) c.read_header-h.ensures (told_err (head_asks_of s c.read_header-h.result) c.ask_head.ensures c.in_err-ask_head.was)))
+pub walk_chain-requires-clause-laws : goal.walk_chain-requires-clause-laws
+walk_chain-requires-clause-laws g c = group_laws
 
-pub walk_groups-requires : goal.walk_groups-requires
-walk_groups-requires c = record {
-  head = headed _ _ c.read_header-h.ensures c.ask_head.ensures c.in_ok-ask_head.was;
-  header = c.read_header-h.ensures;
-  none_marked = c.no_marks-sources.ensures;
-  none_reached = c.no_marks-reached.ensures;
-  none_summed = c.requires;
-}
+pub walk_chain-requires-clause-sums : goal.walk_chain-requires-clause-sums
+walk_chain-requires-clause-sums g c w z = groups_more _ (c.climate-climate.ensures w z ∙ ap (λ (h : Header). climate_of h.temperatures) c.in_ok-file.file.read)
 
-pub walk_stores-requires : goal.walk_stores-requires
-walk_stores-requires c =
-    record { head = headed _ _ c.read_header-h.ensures c.ask_head.ensures c.in_ok-ask_head.was; header = c.read_header-h.ensures; groups = c.in_ok-groups.ensures }
+pub walk_chain-requires-clause-begins : goal.walk_chain-requires-clause-begins
+unfolding reached_by
+walk_chain-requires-clause-begins g c =
+    let e = c.start-state.ensures in
+    record {
+      c = groups_so_far [];
+      before = c.in_ok-file.ensures.1;
+      holds = record {
+        sources_are = ap (λ (m : State). m.sources) e;
+        reached_are = ap (λ (m : State). m.reached) e;
+        none_summed = λ _. ap (λ (m : State). m.totals) e;
+        sums_are = λ _. subst (Sums _) (sym (ap (λ (m : State). m.totals) e)) sums_of_none;
+      };
+    }
 
-pub walk_locomotives-requires : goal.walk_locomotives-requires
-walk_locomotives-requires c =
-    record { head = headed _ _ c.read_header-h.ensures c.ask_head.ensures c.in_ok-ask_head.was; header = c.read_header-h.ensures; stores = c.in_ok-stores.ensures }
+pub walk_chain-requires-2-clause-laws : goal.walk_chain-requires-2-clause-laws
+walk_chain-requires-2-clause-laws g c = store_laws
 
-pub ask_reached-requires : goal.ask_reached-requires
-ask_reached-requires c = sized _ (headed _ _ c.read_header-h.ensures c.ask_head.ensures c.in_ok-ask_head.was)
+pub walk_chain-requires-2-clause-sums : goal.walk_chain-requires-2-clause-sums
+walk_chain-requires-2-clause-sums g c w z = stores_more _
+
+pub walk_chain-requires-2-clause-begins : goal.walk_chain-requires-2-clause-begins
+walk_chain-requires-2-clause-begins g c =
+    let p = c.in_ok-groups.ensures.passed in
+    record { c = groups_so_far p.b; before = (p.before, p.chain); holds = p.holds }
+
+pub walk_chain-requires-3-clause-laws : goal.walk_chain-requires-3-clause-laws
+walk_chain-requires-3-clause-laws g c = locomotive_laws
+
+pub walk_chain-requires-3-clause-sums : goal.walk_chain-requires-3-clause-sums
+walk_chain-requires-3-clause-sums g c w z = locomotives_more _
+
+pub walk_chain-requires-3-clause-begins : goal.walk_chain-requires-3-clause-begins
+walk_chain-requires-3-clause-begins g c =
+    let p = c.in_ok-stores.ensures.passed in
+    record { c = stores_so_far p.c p.b; before = (p.before.0, p.before.1, p.chain); holds = p.holds }
 
 pub returns-in_err-ask_reached : goal.returns-in_err-ask_reached
 unfolding last_asks
-returns-in_err-ask_reached c =
-    let s = c.args.file.now in
-    let h = headed _ _ c.read_header-h.ensures c.ask_head.ensures c.in_ok-ask_head.was in
-    let p = c.in_ok-counts.ensures.passed in
-    let ls = reached_of s p.c in
-    handed_on (FileWalked _ _ _) c.from_residual-in_err-ask_reached.ensures
-    (at_last p.c h p.group_chain p.store_chain p.chain (told_err (reach_asks (slot_count s - 1) 1 ls) (c.ask_reached.ensures ls p.holds.reached_are) c.in_err-ask_reached.was))
+returns-in_err-ask_reached g c =
+    let s = c.in_ok-file.file.bytes.now in
+    let p = c.in_ok-locomotives.ensures.passed in
+    let d = locomotives_so_far p.c p.b in
+    let ls = reached_of s d in
+    handed_on (FileWalked _ _) c.from_residual-in_err-ask_reached.ensures
+    (subst (λ (t : List ℕ). Refuses t c.in_err-ask_reached.field-0.0) c.in_ok-file.ensures.0
+    (at_last d p.before.0 p.before.1 p.before.2 p.chain (told_err (reach_asks (slot_count s - 1) 1 ls) (c.ask_reached.ensures ls p.holds.reached_are) c.in_err-ask_reached.was)))
 
 pub returns : goal.returns
 unfolding last_asks
-returns c =
-    let s = c.args.file.now in
-    let h = headed _ _ c.read_header-h.ensures c.ask_head.ensures c.in_ok-ask_head.was in
-    let p = c.in_ok-counts.ensures.passed in
-    let ls = reached_of s p.c in
+returns g c =
+    let s = c.in_ok-file.file.bytes.now in
+    let p = c.in_ok-locomotives.ensures.passed in
+    let d = locomotives_so_far p.c p.b in
+    let ls = reached_of s d in
+    -- a chain that ends is the only one, so what was counted is what the last walk speaks of
+    let v = c.in_ok-groups.ensures.passed in
+    let w = c.in_ok-stores.ensures.passed in
+    let n = v.count_is ∙ ap length (one_chain s _ v.b p.c.groups v.chain.chain p.before.1.chain) in
+    let m = w.count_is ∙ ap length (one_chain s _ w.b p.c.stores w.chain.chain p.before.2.chain) in
     let y = told_ok (reach_asks (slot_count s - 1) 1 ls) (c.ask_reached.ensures ls p.holds.reached_are) c.in_ok-ask_reached.was in
-    record {
-      c = p.c;
-      accepts = record { head = h; groups = p.group_chain; stores = p.store_chain; locomotives = p.chain; last = y };
-      sources = _;
-      reached = _;
-      holds = p.holds;
-    }
+    let counts : Counts = record { groups = c.in_ok-groups.groups; stores = c.in_ok-stores.stores; locomotives = c.in_ok-locomotives.locomotives } in
+    subst (λ (t : List ℕ). FileAccepted t g.S.Summing.wanted counts c.walk_chain-3.new.state.totals) c.in_ok-file.ensures.0 (record {
+      c = d;
+      accepts = record { head = p.before.0; groups = p.before.1; stores = p.before.2; locomotives = p.chain; last = y };
+      counts_are = λ i. record { groups = n i; stores = m i; locomotives = p.count_is i };
+      sums_are = p.holds.sums_are;
+      none_summed = p.holds.none_summed;
+    })

@@ -2,7 +2,7 @@
 use Rattle.std.proofs.Common.{arith, ℕ, suc, ◌+◌, ◌-◌, ◌≡◌, refl, sym, ◌∙◌, Bool, List, Err}
 use Rattle.sums.specs.Choice.{if_then_else}
 use Rattle.sums.specs.declared.answer.Reason.TheVariants.{Unreached}
-use Rattle.slot_file.specs.Questions.{member, reach_asks}
+use Rattle.slot_file.specs.Questions.{slot_count, member, reach_asks}
 use Rattle.questions.specs.Told.{told_by}
 use Rattle.questions.proofs.Telling.{marked}
 use Rattle.walk.proofs.reached.ask_reached.Goals as goal
@@ -13,30 +13,30 @@ reach_turn : (n m i : ℕ) (l : List ℕ) {b : Bool} → n ≡ suc m → member 
 unfolding reach_asks told_by
 reach_turn n m i l e b = rw (e, b)
 
-pub loop-i-init : goal.loop-i-init
-loop-i-init c = (omega arith, λ l m. refl)
+pub loop-slot-init : goal.loop-slot-init
+loop-slot-init c = (omega arith, λ l m. refl)
 
-pub returns-then-not-reached-i : goal.returns-then-not-reached-i
+pub returns-then-not-reached-from : goal.returns-then-not-reached-from
 unfolding if_then_else
-returns-then-not-reached-i c l m =
-    let i = c.loop-i.i in
-    let n = c.args.count in
-    let t = marked l i m (λ z. omega arith) (omega arith) c.if-not-reached-i.true in
-    sym (c.loop-i.invariant.1 l m ∙ reach_turn (n - i) (n - (i + 1)) i l (omega arith) t)
+returns-then-not-reached-from c l m =
+    let i = c.loop-slot.slot in
+    let n = slot_count c.args.file.now.bytes.now in
+    let t = marked l i m (λ z. omega arith) (omega arith) (rw c.from.ensures at c.if-not-reached-from.true) in
+    sym (c.loop-slot.invariant.1 l m ∙ reach_turn (n - i) (n - (i + 1)) i l (omega arith) t)
 
-pub loop-i-preserved : goal.loop-i-preserved
+pub loop-slot-preserved : goal.loop-slot-preserved
 unfolding if_then_else
-loop-i-preserved c =
-    let i = c.loop-i.i in
-    let n = c.args.count in (
+loop-slot-preserved c =
+    let i = c.loop-slot.slot in
+    let n = slot_count c.args.file.now.bytes.now in (
       omega arith,
       λ l m.
-          let t = marked l i m (λ z. omega arith) (omega arith) c.if-not-reached-i.false in
-          c.loop-i.invariant.1 l m ∙ reach_turn (n - i) (n - (i + 1)) i l (omega arith) t,
+          let t = marked l i m (λ z. omega arith) (omega arith) (rw c.from.ensures at c.if-not-reached-from.false) in
+          c.loop-slot.invariant.1 l m ∙ reach_turn (n - i) (n - (i + 1)) i l (omega arith) t,
     )
 
 pub returns : goal.returns
 unfolding reach_asks told_by
 returns c l m =
-    let e : c.args.count - c.loop-i.i ≡ 0 = omega arith in
-    sym (rw e at (c.loop-i.invariant.1 l m))
+    let e : slot_count c.args.file.now.bytes.now - c.loop-slot.slot ≡ 0 = omega arith in
+    sym (rw e at (c.loop-slot.invariant.1 l m))

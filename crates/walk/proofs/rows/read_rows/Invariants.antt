@@ -12,9 +12,9 @@ use Rattle.walk.proofs.rows.read_rows.Given as goal
 abbrev pub invariant-loop-n : goal.invariant-loop-n
 invariant-loop-n l = record {
   room : length l.coefficients ≡ pollutant_count;
-  yes : AllYes (rows_asks l.file l.g l.n);
-  holder_is : l.holder ≡ coefficient_holder l.file l.g l.n;
-  link_is : l.link ≡ coefficient_slot l.file l.g l.n;
-  marks : l.reached ≡ marks_to l.file l.g l.initial.reached l.n;
-  read : (m : ℕ) → m < l.n → get_or l.coefficients m no_coefficients ≡ coefficients_of (slot_of l.file (coefficient_slot l.file l.g m));
+  yes : AllYes (rows_asks l.file.bytes.now l.g l.n);
+  holder_is : l.link.holder ≡ coefficient_holder l.file.bytes.now l.g l.n;
+  link_is : l.link.slot ≡ coefficient_slot l.file.bytes.now l.g l.n;
+  marks : l.reached ≡ marks_to l.file.bytes.now l.g l.initial.reached l.n;
+  read : (m : ℕ) → m < l.n → get_or l.coefficients m no_coefficients ≡ coefficients_of (slot_of l.file.bytes.now (coefficient_slot l.file.bytes.now l.g m));
 }

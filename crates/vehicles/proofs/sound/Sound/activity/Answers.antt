@@ -1,43 +1,16 @@
 -- The totals are those of the months passed, each month in its own period.
-use Rattle.std.proofs.Common.{arith, ◌≡◌, refl, ap, ◌∙◌, ℕ, get_or, length-set}
+use Rattle.std.proofs.Common.{arith, ◌≡◌, refl, ap, ◌∙◌, ℕ, length-set}
 use Rattle.sums.specs.Choice.{sum_to}
-use Rattle.sums.proofs.Choices.{sum_to_step, sum_to_bound, list_to_is}
-use Rattle.warmups.specs.Parts.{tenths, conditions_in, TimesInRange}
-use Rattle.warmups.proofs.Decided.{times_in_range, conditions_in_range}
+use Rattle.sums.proofs.Choices.{sum_to_step, list_to_is}
+use Rattle.warmups.specs.Parts.{tenths, conditions_in}
 use Rattle.vehicles.specs.Parts.{metres, month_warmup, month_run, month_idle, in_period, activity_of}
-use Rattle.vehicles.proofs.Ranges.{ranged, three}
-use Rattle.vehicles.proofs.Periods.{added, alone, day_run_lem, warmup_most, run_most, idle_most}
+use Rattle.vehicles.proofs.Ranges.{three}
+use Rattle.vehicles.proofs.Periods.{added}
 use Rattle.vehicles.proofs.sound.Sound.activity.Goals as goal
 
 pub loop-i-init : goal.loop-i-init
 unfolding in_period sum_to
 loop-i-init c = record { three_warmups = refl; three_runs = refl; warmups = three _ refl refl refl; runs = three _ refl refl refl; idling = refl }
-
-pub more-requires : goal.more-requires
-more-requires c =
-    let s = c.args.self.now in
-    let bs = c.args.bands in
-    let t : TimesInRange s.times = rw s.of_category (times_in_range s.factors s.factors_ranged s.group.category) in
-    let e = c.conditions_in-w.ensures in (
-      rw (c.loop-i.invariant.warmups _ c.place-period.ensures.1)
-          (omega (arith, alone s.group bs (month_warmup s.times s.group bs) 9300 c.loop-i.i (λ m l. warmup_most s.group s.group_ranged s.times t bs m (omega arith)) c.place-period.result)),
-      rw e (omega (arith, (conditions_in_range s.times t s.group (ranged s.group s.group_ranged).timed (get_or bs c.loop-i.i 0)).minutes)),
-    )
-
-pub more-requires-in-loop-i : goal.more-requires-in-loop-i
-more-requires-in-loop-i c =
-    let s = c.args.self.now in (
-      rw (c.loop-i.invariant.runs _ c.place-period.ensures.1)
-          (omega (arith, alone s.group c.args.bands (month_run s.group) 2480000 c.loop-i.i (λ m l. run_most s.group s.group_ranged m (omega arith)) c.place-period.result)),
-      rw c.day_run-run.ensures (day_run_lem s.group s.group_ranged),
-    )
-
-pub more-idling-requires : goal.more-idling-requires
-more-idling-requires c =
-    let s = c.args.self.now in (
-      rw c.loop-i.invariant.idling (omega (arith, sum_to_bound 15500 (month_idle s.group) c.loop-i.i (λ m l. idle_most s.group s.group_ranged m (omega arith)))),
-      rw c.day_idle-idle.ensures (omega (arith, (ranged s.group s.group_ranged).idle)),
-    )
 
 pub loop-i-preserved : goal.loop-i-preserved
 unfolding conditions_in

@@ -1,7 +1,0 @@
--- The emissions passed are added.
-use Rattle.std.proofs.Common.{◌≡◌, length}
-use Rattle.totals.specs.Totals.{plus_to_in}
-use Rattle.totals.proofs.add_all.Given as goal
-
-abbrev pub invariant-loop-e : goal.invariant-loop-e
-invariant-loop-e g l = (length l.totals ≡ length l.initial.totals) × (l.totals ≡ plus_to_in l.initial.totals l.e-items l.e-index)

@@ -1,8 +1,0 @@
--- The tests, as they stand.
-use Rattle.std.proofs.Common.{refl}
-use Rattle.vehicle_fields.specs.Fields.{distances_in_range}
-use Rattle.vehicle_fields.proofs.group.distances_in_range.Goals as goal
-
-pub returns : goal.returns
-unfolding distances_in_range
-returns c = refl
