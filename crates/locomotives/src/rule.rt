@@ -21,7 +21,8 @@ pub(crate) struct Modes {
     pub(crate) greatest: u64,
 }
 
-// One mode more, that has a share: its rate of one substance. It is owed a bound of the sum, since no type says how many modes that is of.
+// One mode more, that has a share: its rate of one substance. Its caller owes a bound of the sum so far, since no type says of how many
+// modes that is.
 #[tactic(auto, using(crate::proofs::Modes::larger))]
 fn with_rate(m: Modes, rate: u32, share: u16) -> Modes
     requires { m.mean ≤ 1000000000000 }

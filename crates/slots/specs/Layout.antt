@@ -140,7 +140,7 @@ bulk_of t = record {
 unfoldable pub handling_of : List ℕ → handling.Handling
 handling_of t = record { bulk = bulk_of t; drop = byte_at t 15 }
 
--- question 9 of a handling record: "Is each field in range and every unnamed byte zero?"; 16..17 are K6 "standing only"
+-- question 9 of a handling record: "Is each field in range and every unnamed byte zero?"; 16..17 are K6, "Standing only"
 unfoldable pub handling_good : List ℕ → handling.Handling → Bool
 handling_good t h = all_of (handling_in_range h ∷ eqb (byte_at t 7) 0 ∷ zero_from t 16 4 ∷ zero_from t 24 40 ∷ [])
 
@@ -148,7 +148,7 @@ handling_good t h = all_of (handling_in_range h ∷ eqb (byte_at t 7) 0 ∷ zero
 unfoldable pub standing_of : List ℕ → standing.Standing
 standing_of t = record { bulk = bulk_of t; k6 = u16_at t 16 }
 
--- question 9 of a standing record; 15 is the drop class "handling only"
+-- question 9 of a standing record; 15 is the drop class, "Handling only"
 unfoldable pub standing_good : List ℕ → standing.Standing → Bool
 standing_good t s = all_of (standing_in_range s ∷ eqb (byte_at t 7) 0 ∷ eqb (byte_at t 15) 0 ∷ zero_from t 18 2 ∷ zero_from t 24 40 ∷ [])
 

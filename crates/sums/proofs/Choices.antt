@@ -54,10 +54,6 @@ each b l h i = at l i (nth (map (λ (n : ℕ). leb n b) l) h i)
     at (n ∷ l) zero e = leb-true n b e
     at (n ∷ l) (suc i) e = at l i e
 
-pub all_to_step : (n : ℕ) (f : ℕ → Bool) → all_to (n + 1) f ≡ (all_to n f && f n)
-unfolding all_to
-all_to_step n f = rw add-one
-
 pub all_to_at : (n : ℕ) (f : ℕ → Bool) → all_to n f ≡ true → (k : ℕ) → k < n → f k ≡ true
 unfolding all_to
 all_to_at zero f h k p = absurd (not-suc-le-zero p)

@@ -40,7 +40,8 @@ pub struct Refusal {
 }
 
 impl Refusal {
-    // Of a source that a rule is asked of: it has no slot, and 01 names slot 0. No `From`, by which a `?` would give what is asked of a slot that slot.
+    // Of a source that a rule is asked of: it has no slot, and 01 names slot 0. No `From`: a `?` would go by it where a slot's read is
+    // refused, and name slot 0.
     pub fn of_source(reason: Reason) -> Self
         ensures { result ≡ of_source reason }
     {

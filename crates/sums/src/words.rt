@@ -71,7 +71,7 @@ impl Words {
         }
     }
 
-    // To the nearest printed unit. Of no units it is none, which many a code of a file has.
+    // To the nearest printed unit. Nothing is divided where there are no units, as of many a code of a file.
     #[tactic(auto, using(crate::proofs::Nearest::none, crate::proofs::Nearest::up, crate::proofs::Nearest::down), unfolding(crate::specs::Figures::units_in, crate::specs::Figures::mixed_of))]
     pub(crate) fn rounded<U: Unit>(self) -> u64
         ensures { result ≡ nearest (units_in self over U.DENOMINATOR) % 2 ^ 64 }
