@@ -110,6 +110,9 @@ module _ (f : Contribution → Frac) (k : ℕ) (pos : 0 < k) (exact : (x : Contr
       go true e = ≈_⊞ (exact x h.0) e
       go false e = ≈_over (0 + total (parts_to f k c) xs) k pos (omega arith) e
 
-  -- the exact sum in printed units, of which one tonne or gram per second has u
+  pub exact_units : (v : Inventory) → exact_sum f c (contributions v) ≈ (total (parts_to f k c) (contributions v) over k)
+  exact_units v = sum_parts (contributions v) (all_units v)
+
+  -- and in printed units, of which one tonne or gram per second has u
   pub exact_parts : (u : ℕ) (v : Inventory) → exact_sum f c (contributions v) ⊙ whole u ≈ ((total (parts_to f k c) (contributions v) * u) over (k * 1))
-  exact_parts u v = ≈_⊙ (sum_parts (contributions v) (all_units v)) (≈_refl u 1 (lit< tt))
+  exact_parts u v = ≈_⊙ (exact_units v) (≈_refl u 1 (lit< tt))

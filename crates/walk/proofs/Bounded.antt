@@ -1,4 +1,4 @@
--- The sums of an accepted file stay below what a sum holds: no source gives a code more than a source's bound, a group and a locomotive with all their emissions, and there are
+-- The sums of the sources passed stay below what a sum holds: no source gives a code more than a source's bound, a group and a locomotive with all their emissions, and there are
 -- fewer sources than slots. Assumes nothing.
 use Rattle.std.proofs.Common.{ℕ, ◌+◌, ◌*◌, ◌<◌, ◌≤◌, arith, mul-le-mul, le_refl, ◌≡◌, true, List, [], ◌∷◌, ◌++◌, eqb, lit<, get_or, length, length-append}
 use Rattle.sums.specs.Fraction.{Frac, parts_of}
@@ -19,13 +19,14 @@ use Rattle.locomotives.proofs.Bounds.{locomotive_bounded}
 use Rattle.slots.specs.declared.store.StoreRecord.{StoreRecord}
 use Rattle.slots.specs.declared.store.StoreRecord.TheVariants.{Handling, Standing, Aspiration}
 use Rattle.slot_file.specs.Sources.{group_at, store_at, locomotive_at, temperatures_at, Chains}
-use Rattle.slot_file.specs.Questions.{most_slots, sources_of, groups_so_far, stores_so_far, locomotives_so_far, group_asks, store_asks, locomotive_asks}
-use Rattle.slot_file.specs.Meaning.{AllYes, Good, Groups, Stores, Locomotives}
+use Rattle.slot_file.specs.Questions.{groups_so_far, stores_so_far, locomotives_so_far, group_asks, store_asks, locomotive_asks}
+use Rattle.slot_file.specs.Meaning.{AllYes, Good}
 use Rattle.slot_file.specs.Figures.{group_contributions, store_contributions, locomotive_contributions}
 use Rattle.slot_file.specs.Alike.{total}
 use Rattle.slot_file.specs.Parts.{parts_to}
 use Rattle.totals.proofs.Sums.{total_list_to}
-use Rattle.walk.specs.FileWalked.{units_of}
+use Rattle.walk.specs.Units.{units_of}
+use Rattle.walk.specs.ChainWalk.{AllPassed}
 use Rattle.slot_file.proofs.Ranged.{group_in_range_lem, row_in_range, store_in_range, store_answered, locomotive_in_range_lem}
 
 -- of either kind of sum
@@ -75,14 +76,14 @@ module _ (f : Contribution → Frac) (k most : ℕ) (bound : (n : ℕ) (x : Cont
   locomotives_most s a (j ∷ ls) h =
       omega (arith, locomotives_most s a ls h.1, locomotive_most (locomotive_at s j) (locomotive_in_range_lem s (locomotives_so_far a ls) j h.0))
 
-  pub file_most : (s : List ℕ) (a : Chains) → Groups s a 0 → Stores s a 0 → Locomotives s a 0 → length (sources_of a) < most_slots → units_of (parts_to f k c) s a ≤ sources_most * most
-  file_most s a v w u l =
+  pub file_most : (s : List ℕ) (a : Chains) → AllPassed s a → units_of (parts_to f k c) s a ≤ sources_most * most
+  file_most s a p =
       let few : length a.groups + length a.stores + length a.locomotives ≤ sources_most =
-      omega (arith, l, length-append a.locomotives (a.stores ++ a.groups), length-append a.stores a.groups) in
+      omega (arith, p.few, length-append a.locomotives (a.stores ++ a.groups), length-append a.stores a.groups) in
       omega (
         arith,
-        groups_most s a.groups v.good,
-        stores_most s a a.stores w.good,
-        locomotives_most s a a.locomotives u.good,
+        groups_most s a.groups p.groups,
+        stores_most s a a.stores p.stores,
+        locomotives_most s a a.locomotives p.locomotives,
         mul-le-mul few (le_refl most),
       )

@@ -18,7 +18,7 @@ use Rattle.slot_file.proofs.Ranged.{climate_answered}
 use Rattle.warmups.specs.Parts.{climate_of}
 use Rattle.warmups.specs.declared.climate.Climate.{Climate}
 use Rattle.totals.specs.declared.Totals.{Totals}
-use Rattle.walk.specs.FileWalked.{sums_of}
+use Rattle.walk.specs.Units.{sums_of}
 use Rattle.walk.specs.ChainKind.{front}
 use Rattle.walk.specs.ChainWalk.{ChainLaws, SumsMore}
 use Rattle.walk.specs.Rows.{marks_to}
@@ -50,7 +50,7 @@ group_laws = record {
   reached_more = λ s c b n. group_marked s b n;
   headed = λ s c h. h;
   refuses = λ s c b link h w z r f. at_group (groups_so_far b) link h w z f;
-  short = λ s c b link h w. groups_short s h (groups_so_far b) link w;
+  all_passed = λ s c b link h w. record { groups = w.good; stores = tt; locomotives = tt; few = groups_short s h (groups_so_far b) link w };
 }
 
 -- by the climate of the file's temperatures

@@ -13,7 +13,7 @@ use Rattle.source_sums.specs.Added.{plus_answer}
 use Rattle.slot_file.proofs.Outcomes.{locomotives_short}
 use Rattle.totals.specs.declared.Totals.{Totals}
 use Rattle.slot_file.proofs.Ranged.{locomotive_answered}
-use Rattle.walk.specs.FileWalked.{sums_of}
+use Rattle.walk.specs.Units.{sums_of}
 use Rattle.walk.specs.ChainWalk.{ChainLaws, SumsMore}
 use Rattle.walk.specs.ThreeChains.{locomotives, plus_locomotive}
 
@@ -35,7 +35,7 @@ locomotive_laws = record {
   reached_more = λ s c b n. refl;
   headed = λ s c h. h.0;
   refuses = λ s c b link h w z r f. at_locomotive (locomotives_so_far c b) link h.0 h.1 h.2 w z f;
-  short = λ s c b link h w. locomotives_short s h.0 (locomotives_so_far c b) link h.1 h.2 w;
+  all_passed = λ s c b link h w. record { groups = h.1.good; stores = h.2.good; locomotives = w.good; few = locomotives_short s h.0 (locomotives_so_far c b) link h.1 h.2 w };
 }
 
 pub locomotives_more : (s : List ℕ) → SumsMore locomotives locomotive_at s plus_locomotive

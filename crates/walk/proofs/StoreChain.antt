@@ -18,7 +18,7 @@ use Rattle.source_sums.specs.Added.{record_answer, plus_one}
 use Rattle.slot_file.proofs.Outcomes.{stores_short}
 use Rattle.totals.specs.declared.Totals.{Totals}
 use Rattle.slot_file.proofs.Ranged.{store_in_range, store_answered}
-use Rattle.walk.specs.FileWalked.{sums_of}
+use Rattle.walk.specs.Units.{sums_of}
 use Rattle.walk.specs.ChainKind.{front}
 use Rattle.walk.specs.ChainWalk.{ChainLaws, SumsMore}
 use Rattle.walk.specs.ThreeChains.{stores, plus_store}
@@ -52,7 +52,7 @@ store_laws = record {
   reached_more = λ s c b n. refl;
   headed = λ s c h. h.0;
   refuses = λ s c b link h w z r f. at_store (stores_so_far c b) link h.0 h.1 w z f;
-  short = λ s c b link h w. stores_short s h.0 (stores_so_far c b) link h.1 w;
+  all_passed = λ s c b link h w. record { groups = h.1.good; stores = w.good; locomotives = tt; few = stores_short s h.0 (stores_so_far c b) link h.1 w };
 }
 
 pub stores_more : (s : List ℕ) → SumsMore stores store_at s plus_store

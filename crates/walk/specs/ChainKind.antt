@@ -1,4 +1,4 @@
--- What the chains have in common. Nothing here has to be believed.
+-- What the chains have in common. The claims of `OnePass` speak of `head`, `asks`, `so_far`, `Before` and `Along`; nothing else here has to be believed.
 use Rattle.std.specs.Prelude.{ℕ, Bool, List}
 use Rattle.slots.specs.Bytes.{slot_of}
 use Rattle.slots.specs.declared.header.Header.{Header}
@@ -13,6 +13,8 @@ pub record ChainKind : Type 1 where
   pub asks : List ℕ → Chains → ℕ → List Question
   -- the chains so far, by those before it and its own slots, the last one first
   pub so_far : Chains → List ℕ → Chains
+  -- that questions 1 to 5 are answered yes, and the chains before it are passed
+  pub Before : List ℕ → Chains → Type 0
   -- whether a slot's bytes are of a kind that it carries, and whether they are good
   pub of_kind : List ℕ → Bool
   pub good : List ℕ → Bool
@@ -20,8 +22,6 @@ pub record ChainKind : Type 1 where
   pub asked_after : List ℕ → ℕ → List Question
   -- the marks with what a source reaches beside its own slot
   pub reaches : List ℕ → ℕ → List Bool → List Bool
-  -- that the chains before it are passed
-  pub Before : List ℕ → Chains → Type 0
 
 module _ (k : ChainKind) (s : List ℕ) where
   -- what is asked of a link after the slots b
@@ -32,6 +32,6 @@ module _ (k : ChainKind) (s : List ℕ) where
   abbrev pub front : Chains → List ℕ → ℕ → List Question
   front c b n = link_asks s (last_of b) (sources_of (k.so_far c b)) n (k.of_kind (slot_of s n)) (k.good (slot_of s n))
 
-  -- the chain from its head on, up to a link
+  -- the slots b are the chain from its head on, up to a link, and of each every question was answered yes when it came
   abbrev pub Along : Chains → List ℕ → ℕ → Type 0
   Along c b link = Reached (asks_after c) s (k.head (header_at s)) b link

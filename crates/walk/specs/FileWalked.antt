@@ -1,44 +1,22 @@
--- What the walk holds after the sources passed, and what it answers of a file.
-use Rattle.std.specs.Prelude.{ℕ, ◌+◌, ◌≡◌, Bool, true, false, List, Result, MatchResult}
-use Rattle.sums.specs.Answer.{Contribution}
+-- What the walk over a file answers. Nothing here has to be believed but what stands in `OnePass`.
+use Rattle.std.specs.Prelude.{◌≡◌, ℕ, Bool, true, false, List, Result, MatchResult}
 use Rattle.sums.specs.declared.answer.Refusal.{Refusal}
-use Rattle.slot_file.specs.Sources.{group_at, store_at, locomotive_at, temperatures_at, Chains}
-use Rattle.slot_file.specs.Questions.{sources_of, reached_of}
-use Rattle.slot_file.specs.Meaning.{Accepts, Refuses}
-use Rattle.slot_file.specs.Figures.{group_contributions, store_contributions, locomotive_contributions, counts_of}
-use Rattle.slot_file.specs.Alike.{total}
-use Rattle.slot_file.specs.Parts.{marks_of}
+use Rattle.slot_file.specs.Sources.{Chains, inventory_at}
+use Rattle.slot_file.specs.Meaning.{Refuses}
+use Rattle.slot_file.specs.Figures.{contributions}
 use Rattle.slot_file.specs.declared.Counts.{Counts}
-use Rattle.totals.specs.Totals.{no_sums, column, Sums}
+use Rattle.totals.specs.Totals.{no_sums}
 use Rattle.totals.specs.declared.Totals.{Totals}
-use Rattle.walk.specs.declared.state.State.{State}
+use Rattle.walk.specs.OnePass.{ExactSums, FiguresFrom, VisitedOnce}
 
--- the units that the sources on the chains have together
-abbrev pub units_of : (Contribution → ℕ) → List ℕ → Chains → ℕ
-units_of f s c =
-    total (λ (g : ℕ). total f (group_contributions (temperatures_at s) (group_at s g))) c.groups
-    + total (λ (k : ℕ). total f (store_contributions (store_at s k))) c.stores
-    + total (λ (k : ℕ). total f (locomotive_contributions (locomotive_at s k))) c.locomotives
-
--- the exact sums of the sources passed so far, of the code k in column q
-abbrev pub sums_of : List ℕ → Chains → ℕ → ℕ → ℕ
-sums_of s c q k = units_of (column q k) s c
-
--- WHAT THE WALK HOLDS after the sources on the chains so far: the marks of the sources and of all that they reach, and their exact sums where sums are wanted, else
--- those of nothing
-pub record Holds (s : List ℕ) (summing : Bool) (m : State) (c : Chains) : Type 0 where
-  pub sources_are : m.sources ≡ marks_of (sources_of c)
-  pub reached_are : m.reached ≡ marks_of (reached_of s c)
-  pub sums_are : summing ≡ true → Sums (sums_of s c) m.totals
-  pub none_summed : summing ≡ false → m.totals ≡ no_sums
-
--- a file that nothing is refused of
+-- of a file that nothing is refused of, its counts and its sums
 pub record FileAccepted (s : List ℕ) (summing : Bool) (counts : Counts) (totals : Totals) : Type 0 where
   pub c : Chains
-  pub accepts : Accepts s c
-  pub counts_are : counts ≡ counts_of c
-  pub sums_are : summing ≡ true → Sums (sums_of s c) totals
+  pub visited : VisitedOnce s c counts
+  pub sums_are : summing ≡ true → ExactSums (contributions (inventory_at s c)) totals
+  pub figures : summing ≡ true → FiguresFrom s counts totals
   pub none_summed : summing ≡ false → totals ≡ no_sums
 
+-- of a refused one its refusal, and no sums
 abbrev pub FileWalked : List ℕ → Bool → Result (Counts × Totals) Refusal → Type 0
 FileWalked s summing r = MatchResult r (λ w. FileAccepted s summing w.0 w.1) (Refuses s)

@@ -1,7 +1,9 @@
--- What inner functions answer. Nothing here has to be believed.
+-- What is claimed of the walk (`OnePass`), and what inner functions answer, in which nothing has to be believed.
 pub mod Rows
 pub mod Reach
-pub mod FileWalked
 pub mod ChainKind
+pub mod OnePass
+pub mod Units
+pub mod FileWalked
 pub mod ChainWalk
 pub mod ThreeChains

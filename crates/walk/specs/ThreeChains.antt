@@ -1,4 +1,5 @@
--- The kinds of the three chains, their sources, and the sums with one more. Nothing here has to be believed.
+-- The kinds of the three chains, of which the claims of `OnePass` speak by the fields that `ChainKind` names; their sources, and the sums with one more. Nothing else here
+-- has to be believed.
 use Rattle.std.specs.Prelude.{ℕ, List, [], ◌∷◌, ◌++◌}
 use Rattle.sums.specs.declared.answer.Reason.TheVariants.{Shares}
 use Rattle.vehicle_fields.specs.Fields.{pollutant_count}
@@ -24,11 +25,11 @@ groups = record {
   head = λ h. h.heads.groups;
   asks = group_asks;
   so_far = λ c b. groups_so_far b;
+  Before = λ s c. AllYes (head_asks s);
   of_kind = group_kind;
   good = λ t. group_good t (group_of t);
   asked_after = λ s g. rows_asks s g pollutant_count ++ closing_asks s g;
   reaches = λ s g l. marks_to s g l pollutant_count;
-  Before = λ s c. AllYes (head_asks s);
 }
 
 abbrev pub stores : ChainKind
@@ -36,11 +37,11 @@ stores = record {
   head = λ h. h.heads.stores;
   asks = store_asks;
   so_far = stores_so_far;
+  Before = λ s c. AllYes (head_asks s) × Groups s c 0;
   of_kind = store_kind;
   good = store_good;
   asked_after = λ s k. [];
   reaches = λ s k l. l;
-  Before = λ s c. AllYes (head_asks s) × Groups s c 0;
 }
 
 abbrev pub locomotives : ChainKind
@@ -48,11 +49,11 @@ locomotives = record {
   head = λ h. h.heads.locomotives;
   asks = locomotive_asks;
   so_far = locomotives_so_far;
+  Before = λ s c. AllYes (head_asks s) × Groups s c 0 × Stores s c 0;
   of_kind = locomotive_kind;
   good = λ t. locomotive_good t (locomotive_of t);
   asked_after = λ s k. question (shares_add_up (locomotive_at s k)) Shares k ∷ [];
   reaches = λ s k l. l;
-  Before = λ s c. AllYes (head_asks s) × Groups s c 0 × Stores s c 0;
 }
 
 -- a group with its coefficients, and the sums with it

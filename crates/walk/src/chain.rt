@@ -4,7 +4,8 @@ ghost use Rattle.slots.specs.Bytes.{slot_of};
 ghost use Rattle.slots.specs.Layout.{slot_read};
 ghost use Rattle.totals.specs.declared.Totals.{Totals};
 ghost use Rattle.walk.specs.ChainKind.{ChainKind};
-ghost use Rattle.walk.specs.ChainWalk.{Sourced, Stepped, SumsMore, ChainLaws, Begins, Walked};
+ghost use Rattle.walk.specs.ChainWalk.{Sourced, Offered, SumsMore, ChainLaws, Stands, Begins, Walked};
+ghost use Rattle.walk.specs.OnePass.{Stepped};
 
 use super::headed::Headed;
 use super::marks;
@@ -55,17 +56,24 @@ pub(crate) trait Chain: Copy {
         ensures { totals.new ≡ plus self totals.old source };
 }
 
+// Where a walk along a chain stands: the link that it goes on by, and how many of the chain's sources it has passed.
+#[derive(Clone, Copy)]
+pub(crate) struct Position {
+    pub(crate) link: Link,
+    pub(crate) passed: u16,
+}
+
 // All that is asked of a link. Where it is 0 the chain ends and there is none, which only the walk asks. Its slot is marked as a source, and it and what it reaches as
 // reached; the source is added, where sums are wanted. It answers the next link: a number and no `Option`, as a slot has it, and 0 as the holder of a chain's first link
 // is the slot that a refusal names.
-fn step_along<C: Chain, S: Summing>(
+fn take_source<C: Chain, S: Summing>(
     chain: C,
     file: &Headed,
     state: &mut State,
     link: Link,
 ) -> Result<u16, Refusal>
     requires { link.slot ≡ 0 → ⊥ }
-    ensures { Stepped C.kind C.source_at file.now.bytes.now S.wanted (C.plus chain) link.holder link.slot state.old state.new result }
+    ensures { Offered C.kind C.source_at file.now.bytes.now S.wanted (C.plus chain) link.holder link.slot state.old state.new result }
 {
     let k = usize::from(link.slot);
     let known = marks::marked(file, &state.sources, k);
@@ -78,9 +86,32 @@ fn step_along<C: Chain, S: Summing>(
     Ok(slots::next_of(file.bytes, k))
 }
 
+// A step of the walk: the source of the link where it stands. After it the sums are the exact sums of the sources passed so far. The laws are a clause and no member of
+// the trait, whose ghosts may not cite proofs; that the walk stands there only the walk knows.
+fn step_along<C: Chain, S: Summing>(
+    chain: C,
+    file: &Headed,
+    state: &mut State,
+    at: Position,
+) -> Result<Position, Refusal>
+    requires laws { ChainLaws C.kind }
+    requires sums { S.wanted ≡ true → SumsMore C.kind C.source_at file.now.bytes.now (C.plus chain) }
+    requires stands { Stands C.kind file.now.bytes.now S.wanted state.old at }
+    requires goes_on { at.link.slot ≡ 0 → ⊥ }
+    ensures { Stepped C.kind file.now.bytes.now S.wanted state.old state.new at result }
+{
+    let next = take_source::<C, S>(chain, file, state, at.link)?;
+    Ok(Position {
+        link: Link {
+            holder: at.link.slot,
+            slot: next,
+        },
+        passed: at.passed + 1,
+    })
+}
+
 // The chain, from slot 0 to a zero or to the first question that is answered no. It ends: a step that goes on has marked a source that was not marked before
-// (question 7), and a file has fewer than MOST_SLOTS of them. The laws are a clause and no member of the trait, whose ghosts may not cite proofs; how the sums and the state
-// begin only `walk_file` knows.
+// (question 7), and a file has fewer than MOST_SLOTS of them. How the sums and the state begin only `walk_file` knows.
 pub(crate) fn walk_chain<C: Chain, S: Summing>(
     chain: C,
     file: &Headed,
@@ -91,18 +122,15 @@ pub(crate) fn walk_chain<C: Chain, S: Summing>(
     requires begins { Begins C.kind file.now.bytes.now S.wanted state.old }
     ensures { Walked C.kind file.now.bytes.now S.wanted state.new result }
 {
-    let mut link = Link {
-        holder: 0,
-        slot: C::head(file.header),
+    let mut at = Position {
+        link: Link {
+            holder: 0,
+            slot: C::head(file.header),
+        },
+        passed: 0,
     };
-    let mut count = 0;
-    while link.slot != 0 {
-        let next = step_along::<C, S>(chain, file, state, link)?;
-        link = Link {
-            holder: link.slot,
-            slot: next,
-        };
-        count += 1;
+    while at.link.slot != 0 {
+        at = step_along::<C, S>(chain, file, state, at)?;
     }
-    Ok(count)
+    Ok(at.passed)
 }

@@ -1,6 +1,6 @@
 -- The walk means what the outcome means, and only one outcome does (`Outcomes.only`).
 use Rattle.std.proofs.Common.{◌≡◌, sym, ap}
-use Rattle.slot_file.specs.Questions.{accepted, refused}
+use Rattle.slot_file.specs.Questions.{refused}
 use Rattle.slot_file.specs.Walk.{outcome, told}
 use Rattle.slot_file.proofs.Outcomes.{only}
 use Rattle.questions.proofs.Telling.{handed_on}
@@ -12,4 +12,4 @@ returns-in_err-walk_file c =
     handed_on (λ r. r ≡ told (outcome s)) c.from_residual.ensures (sym (ap told (only s (refused c.in_err-walk_file.field-0.0) c.in_err-walk_file.ensures)))
 
 pub returns : goal.returns
-returns c = let a = c.in_ok-walk_file.ensures in sym (ap told (only c.args.file.now (accepted a.c) a.accepts))
+returns c = sym (ap told c.in_ok-walk_file.ensures.visited.chains)
