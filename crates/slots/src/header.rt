@@ -33,8 +33,9 @@ fn temperatures_of(t: &Slot) -> [i16; 12]
     array::from_fn(|m| numbers::i16_at(t, 8 + 2 * m))
 }
 
-// What slot 0 of a file holds.
+// What slot 0 of a file holds. Inlined, as what reads a source's slot is.
 #[tactic(auto, unfolding(crate::specs::Layout::header_of))]
+#[inline(always)]
 pub fn read_header(file: &[u8]) -> Header
     ensures { result ≡ header_of (slot_of file.now 0) }
 {

@@ -11,5 +11,5 @@ fn temperature_in_range(t: i16) -> bool
 pub fn temperatures_in_range(ts: [i16; 12]) -> bool
     ensures { result ≡ temperatures_in_range ts }
 {
-    ts.iter().all(|t| temperature_in_range(*t))
+    ts.iter().fold(true, |ok, t| ok & temperature_in_range(*t))
 }

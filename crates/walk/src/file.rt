@@ -1,5 +1,7 @@
 // A whole file: its check and its answer, by one walk over its chains.
 ghost use Rattle.std.specs.Prelude.{◌≡◌};
+ghost use Rattle.slot_file.specs.Questions.{head_asks};
+ghost use Rattle.slot_file.specs.Meaning.{AllYes};
 ghost use Rattle.slot_file.specs.Walk.{outcome, told};
 ghost use Rattle.slot_file.specs.Figures as figures;
 ghost use Rattle.walk.specs.FileWalked.{FileWalked};
@@ -16,23 +18,32 @@ use slot_file::{Answer, Counts};
 use sums::Refusal;
 use totals::{Figures, Totals};
 
-// Questions 1 to 12 and 14 in order; where nothing is refused, the counts, and the sums where they are wanted.
-fn walk_file<S: Summing>(bytes: &[u8]) -> Result<(Counts, Totals), Refusal>
-    ensures { FileWalked bytes.now S.wanted result }
+// Questions 6 to 12 and 14 in order; where nothing is refused, the counts, and the sums where they are wanted. That 1 to 5 are answered yes is no fact of `Headed`, whose
+// ghosts are equations and orders. Apart from the head, which is inlined: in one function the two clear the state twice.
+fn walk_chains<S: Summing>(file: &Headed) -> Result<(Counts, Totals), Refusal>
+    requires { AllYes (head_asks file.now.bytes.now) }
+    ensures { FileWalked file.now.bytes.now S.wanted result }
 {
-    let file = Headed::of(bytes)?;
     let climate = S::climate(file.header);
     let mut state = State::start();
-    let groups = walk_chain::<Groups, S>(Groups { climate }, &file, &mut state)?;
-    let stores = walk_chain::<Stores, S>(Stores, &file, &mut state)?;
-    let locomotives = walk_chain::<Locomotives, S>(Locomotives, &file, &mut state)?;
-    reached::ask_reached(&file, &state.reached)?;
+    let groups = walk_chain::<Groups, S>(Groups { climate }, file, &mut state)?;
+    let stores = walk_chain::<Stores, S>(Stores, file, &mut state)?;
+    let locomotives = walk_chain::<Locomotives, S>(Locomotives, file, &mut state)?;
+    reached::ask_reached(file, &state.reached)?;
     let counts = Counts {
         groups,
         stores,
         locomotives,
     };
     Ok((counts, state.totals))
+}
+
+// Questions 1 to 12 and 14 in order.
+fn walk_file<S: Summing>(bytes: &[u8]) -> Result<(Counts, Totals), Refusal>
+    ensures { FileWalked bytes.now S.wanted result }
+{
+    let file = Headed::of(bytes)?;
+    walk_chains::<S>(&file)
 }
 
 // Whether a file is accepted, and else the refusal of the first question that is answered no.

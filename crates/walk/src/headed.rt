@@ -17,6 +17,8 @@ pub(crate) struct Headed<'a> {
 }
 
 impl<'a> Headed<'a> {
+    // Inlined, as `read_header` is: a header that is handed over is written and read again, 38 instructions a file.
+    #[inline(always)]
     pub(crate) fn of(bytes: &'a [u8]) -> Result<Self, Refusal>
         ensures { MatchResult result (λ f. (f.bytes.now ≡ bytes.now) × AllYes (head_asks f.bytes.now)) (Refuses bytes.now) }
     {
