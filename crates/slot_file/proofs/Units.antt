@@ -110,6 +110,7 @@ module _ (f : Contribution → Frac) (k : ℕ) (pos : 0 < k) (exact : (x : Contr
       go true e = ≈_⊞ (exact x h.0) e
       go false e = ≈_over (0 + total (parts_to f k c) xs) k pos (omega arith) e
 
+  -- the exact sum of what an inventory gives
   pub exact_units : (v : Inventory) → exact_sum f c (contributions v) ≈ (total (parts_to f k c) (contributions v) over k)
   exact_units v = sum_parts (contributions v) (all_units v)
 

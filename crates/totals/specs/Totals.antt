@@ -1,5 +1,5 @@
 -- 01, "Figures": the exact sums of the listing's codes. "The exact sum of a code, annual or peak, adds ... what the rules above give that code from each source";
--- that a file's sums are those of slot_file's Figures is proved where a file is walked (`OnePass` in walk).
+-- that a file's sums are those of slot_file's Figures is claimed of the walk (`OnePass` in walk).
 use Rattle.std.specs.Prelude.{ℕ, zero, suc, ◌+◌, ◌%◌, ◌^◌, ◌≡◌, List, map, get_or, set, replicate}
 use Rattle.sums.specs.Figures.{AnnualSum, PeakSum, sum_parts, sum_of, annual_of, peak_of, annual_rounded, peak_rounded}
 use Rattle.sums.specs.Answer.{Contribution, no_emission}

@@ -58,23 +58,24 @@ module _ (s : List ℕ) (b : Chains) where
       )
 
   module _ {f : Contribution → Frac} {k most : ℕ} (kind : Kind f k most) (c : ℕ) where
-    abbrev pub units : ℕ
+    abbrev units : ℕ
     units = units_of (parts_to f k c) s b
 
     abbrev sum : Frac
     sum = exact_sum f c (contributions (inventory_at s b))
 
-    pub in_units : sum ≈ (units over k)
+    in_units : sum ≈ (units over k)
     in_units = subst (λ (n : ℕ). sum ≈ (n over k)) (units_are (parts_to f k c)) (exact_units f k kind.positive kind.exact c (inventory_at s b))
 
     counted : parts_of k sum ≡ units
     counted = parts in_units
 
-    pub units_most : AllPassed s b → units ≤ sources_most * most
-    units_most = file_most f k most kind.bound c s b
+    -- few enough for two words, and for a figure
+    pub parts_most : AllPassed s b → parts_of k sum ≤ sources_most * most
+    parts_most a = rw counted (file_most f k most kind.bound c s b a)
 
     kept : AllPassed s b → sum ≈ (units_in (words_of (parts_of k sum)) over k)
-    kept a = subst (λ (n : ℕ). sum ≈ (n over k)) (sym (words_exact units (lt_of_le_of_lt (units_most a) kind.room)) ∙ (λ i. units_in (words_of (sym counted i)))) in_units
+    kept a = subst (λ (n : ℕ). sum ≈ (n over k)) (sym counted ∙ sym (words_exact (parts_of k sum) (lt_of_le_of_lt (parts_most a) kind.room))) in_units
 
   -- both ways
   pub exact_sums : AllPassed s b → {t : Totals} → Sums (sums_of s b) t → ExactSums (contributions (inventory_at s b)) t

@@ -11,8 +11,8 @@ use Rattle.slot_file.specs.Parts.{marks_of}
 use Rattle.totals.specs.declared.Totals.{Totals}
 use Rattle.questions.specs.Told.{Told}
 use Rattle.walk.specs.ChainKind.{ChainKind, asks_after, front, Along}
-use Rattle.walk.specs.ChainWalk.{ChainLaws, SumsMore, Stands, Begins, Ends, Taken, Offered}
-use Rattle.walk.specs.OnePass.{Passed, Stepped}
+use Rattle.walk.specs.ChainWalk.{ChainLaws, SumsMore, Begins, Taken, Offered}
+use Rattle.walk.specs.OnePass.{at_link, Passed, Stands, Stepped, Ends}
 use Rattle.walk.specs.declared.chain.Position.{Position}
 use Rattle.walk.specs.declared.state.State.{State}
 use Rattle.walk.proofs.ExactSums.{exact_sums, held_sums}
@@ -21,9 +21,6 @@ use Rattle.walk.proofs.ExactSums.{exact_sums, held_sums}
 own_sources : {k : ChainKind} → ChainLaws k → (c : Chains) (b : List ℕ) → length b ≤ length (sources_of (k.so_far c b))
 own_sources laws c [] = omega arith
 own_sources laws c (n ∷ b) = omega (arith, own_sources laws c b, ap length (laws.source_more c b n))
-
-abbrev at_link : ℕ → ℕ → ℕ → Position
-at_link holder slot n = record { link = record { holder = holder; slot = slot }; passed = n }
 
 module _ {k : ChainKind} {s : List ℕ} {summing : Bool} where
   pub begun_with : {m : State} {link : ℕ} → Begins k s summing m → link ≡ k.head (header_at s) → Stands k s summing m (at_link 0 link 0)

@@ -1,4 +1,5 @@
--- What the chains have in common. The claims of `OnePass` speak of `head`, `asks`, `so_far`, `Before` and `Along`; nothing else here has to be believed.
+-- What the chains have in common. The claims of `OnePass` speak of `head`, `asks`, `so_far` and `Before`, and of `asks_after` and `Along`, which are made of them; nothing
+-- else here has to be believed.
 use Rattle.std.specs.Prelude.{ℕ, Bool, List}
 use Rattle.slots.specs.Bytes.{slot_of}
 use Rattle.slots.specs.declared.header.Header.{Header}

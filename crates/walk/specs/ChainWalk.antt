@@ -1,4 +1,4 @@
--- What a step and a walk along a chain answer, and the laws of a kind of chain that they go by. Nothing here has to be believed.
+-- How a walk along a chain begins, what is told of one link, and the laws of a kind of chain that a step goes by. Nothing here has to be believed.
 use Rattle.std.specs.Prelude.{ℕ, ◌<◌, ◌≡◌, Bool, true, List, [], ◌∷◌, ◌++◌, length, set, Result, IfOk, MatchResult}
 use Rattle.sums.specs.Choice.{if_then_else}
 use Rattle.sums.specs.declared.answer.Refusal.{Refusal}
@@ -13,29 +13,14 @@ use Rattle.totals.specs.declared.Totals.{Totals}
 use Rattle.questions.specs.Told.{Told}
 use Rattle.walk.specs.ChainKind.{ChainKind, asks_after, front, Along}
 use Rattle.walk.specs.Units.{sums_of}
-use Rattle.walk.specs.OnePass.{Holds, Passed}
-use Rattle.walk.specs.declared.chain.Position.{Position}
+use Rattle.walk.specs.OnePass.{Holds}
 use Rattle.walk.specs.declared.state.State.{State}
 
--- A WALK stands somewhere on the chain
-pub record Stands (k : ChainKind) (s : List ℕ) (summing : Bool) (m : State) (at : Position) : Type 0 where
-  pub c : Chains
-  pub b : List ℕ
-  pub passed : Passed k s summing m at c b
-
--- it begins after the chains before it
+-- A WALK begins after the chains before it
 pub record Begins (k : ChainKind) (s : List ℕ) (summing : Bool) (m : State) : Type 0 where
   pub c : Chains
   pub before : k.Before s c
   pub holds : Holds s summing m (k.so_far c [])
-
--- and ends at a zero, with n sources passed
-pub record Ends (k : ChainKind) (s : List ℕ) (summing : Bool) (m : State) (n : ℕ) : Type 0 where
-  pub holder : ℕ
-  pub stands : Stands k s summing m (record { link = record { holder = holder; slot = 0 }; passed = n })
-
-abbrev pub Walked : ChainKind → List ℕ → Bool → State → Result ℕ Refusal → Type 0
-Walked k s summing m r = MatchResult r (Ends k s summing m) (Refuses s)
 
 module _ {Source : Type 0} (k : ChainKind) (source_at : List ℕ → ℕ → Source) (s : List ℕ) where
   -- OF A SOURCE, what is asked after its slot, what it is and what it reaches

@@ -4,6 +4,5 @@ pub mod Reach
 pub mod ChainKind
 pub mod OnePass
 pub mod Units
-pub mod FileWalked
 pub mod ChainWalk
 pub mod ThreeChains

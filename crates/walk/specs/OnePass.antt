@@ -1,7 +1,8 @@
 -- 02, U3: "walk a file once, checking and summing together ... Show that after each step of the walk its sums are the exact sums of the sources passed so far, that
 -- the figures come from the sums at its end, and that it visits each source of an accepted file once. Drop the partial sums on a refusal." What is claimed of the
 -- walk, in these words: a reader has to believe this file, with what `ChainKind` and `ThreeChains` say of the three chains, and no other of this crate.
-use Rattle.std.specs.Prelude.{ℕ, ◌≡◌, Bool, true, false, List, [], ◌∷◌, length, map, Result, Ok, IfOk, IfErr}
+-- The marks, by which the walk asks questions 7 and 12, are no claim of 02; they stand in `Holds` since the walk goes by them.
+use Rattle.std.specs.Prelude.{ℕ, ◌≡◌, Bool, true, false, List, [], ◌∷◌, length, map, Result, Ok, IfOk, IfErr, MatchResult}
 use Rattle.sums.specs.Fraction.{Frac, ◌over◌, ◌≈◌}
 use Rattle.sums.specs.Figures.{tonne_parts, gram_parts, annual_parts, annual_sum, peak_parts, peak_sum}
 use Rattle.sums.specs.Answer.{Contribution}
@@ -43,6 +44,10 @@ pub record Holds (s : List ℕ) (summing : Bool) (m : State) (c : Chains) : Type
   pub sums_are : summing ≡ true → ExactSums (contributions (inventory_at s c)) m.totals
   pub none_summed : summing ≡ false → m.totals ≡ no_sums
 
+-- a link, and how many sources are passed before it
+abbrev pub at_link : ℕ → ℕ → ℕ → Position
+at_link holder slot n = record { link = record { holder = holder; slot = slot }; passed = n }
+
 -- where the walk stands on a chain of the kind k: the chains of c before it are passed, and of its own the slots b, the last one first, which the position counts; it
 -- goes on at the position's link
 pub record Passed (k : ChainKind) (s : List ℕ) (summing : Bool) (m : State) (at : Position) (c : Chains) (b : List ℕ) : Type 0 where
@@ -52,6 +57,12 @@ pub record Passed (k : ChainKind) (s : List ℕ) (summing : Bool) (m : State) (a
   pub count_is : at.passed ≡ length b
   pub holds : Holds s summing m (k.so_far c b)
 
+-- it stands somewhere: the invariant of the walk's one loop, in `walk_chain`, and what `step_along` asks of its caller
+pub record Stands (k : ChainKind) (s : List ℕ) (summing : Bool) (m : State) (at : Position) : Type 0 where
+  pub c : Chains
+  pub b : List ℕ
+  pub passed : Passed k s summing m at c b
+
 -- CLAIM (a), "after each step of the walk its sums are the exact sums of the sources passed so far": wherever the walk stands before the step, it stands after it with
 -- the slot of the link, and no other, passed besides; or the file is refused, and the step has added nothing. The promise of `step_along`, for each chain
 pub record Stepped (k : ChainKind) (s : List ℕ) (summing : Bool) (m m' : State) (at : Position) (r : Result Position Refusal) : Type 0 where
@@ -59,8 +70,15 @@ pub record Stepped (k : ChainKind) (s : List ℕ) (summing : Bool) (m m' : State
   pub refused : IfErr r (Refuses s)
   pub kept : IfErr r (λ _. m'.totals ≡ m.totals)
 
--- CLAIM (b), "the figures come from the sums at its end": the file's answer has those of the sums, each rounded, beside the counts. `walk_file` promises it of the
--- sums that it hands over
+-- at the chain's end n sources are passed; or the file is refused. The promise of `walk_chain`, for each chain
+pub record Ends (k : ChainKind) (s : List ℕ) (summing : Bool) (m : State) (n : ℕ) : Type 0 where
+  pub holder : ℕ
+  pub stands : Stands k s summing m (at_link holder 0 n)
+
+abbrev pub Walked : ChainKind → List ℕ → Bool → State → Result ℕ Refusal → Type 0
+Walked k s summing m r = MatchResult r (Ends k s summing m) (Refuses s)
+
+-- CLAIM (b), "the figures come from the sums at its end": the file's answer has those of the sums, each rounded, beside the counts
 abbrev pub FiguresFrom : List ℕ → Counts → Totals → Type 0
 FiguresFrom s counts t = answer s ≡ Ok (record { annual = (figures_in t).annual; peak = (figures_in t).peak; counts = counts })
 
@@ -69,12 +87,21 @@ abbrev pub Once : List ℕ → Type 0
 Once [] = Unit {0}
 Once (k ∷ l) = (member k l ≡ false) × Once l
 
--- CLAIM (c), "it visits each source of an accepted file once": c, the chains that the steps have lengthened slot by slot and whose marks they have set, are the file's;
--- each slot on them comes once, and the counts say how many there are. `walk_file` promises it
+-- CLAIM (c), "it visits each source of an accepted file once": the chains c are the file's, each slot on them comes once, and the counts, which the walk has made, say
+-- how many there are. That the walk has passed the slots of c, one a step, and no other, is what `Walked` and `Stepped` say of it
 pub record VisitedOnce (s : List ℕ) (c : Chains) (counts : Counts) : Type 0 where
   pub chains : outcome s ≡ accepted c
   pub once : Once (sources_of c)
   pub counted : counts ≡ counts_of c
 
--- "Drop the partial sums on a refusal": what a refused file is answered has no sums (`FileWalked`), and no figures: of such a file `answer` is its refusal, which the
--- promise of `walk::answer` says
+-- what the walk hands over of an accepted file, its counts and the sums at its end; "Drop the partial sums on a refusal": of a refused one its refusal, and no sums. The
+-- promise of `walk_file`
+pub record FileAccepted (s : List ℕ) (summing : Bool) (counts : Counts) (totals : Totals) : Type 0 where
+  pub c : Chains
+  pub visited : VisitedOnce s c counts
+  pub sums_are : summing ≡ true → ExactSums (contributions (inventory_at s c)) totals
+  pub figures : summing ≡ true → FiguresFrom s counts totals
+  pub none_summed : summing ≡ false → totals ≡ no_sums
+
+abbrev pub FileWalked : List ℕ → Bool → Result (Counts × Totals) Refusal → Type 0
+FileWalked s summing r = MatchResult r (λ w. FileAccepted s summing w.0 w.1) (Refuses s)

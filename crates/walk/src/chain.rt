@@ -4,8 +4,8 @@ ghost use Rattle.slots.specs.Bytes.{slot_of};
 ghost use Rattle.slots.specs.Layout.{slot_read};
 ghost use Rattle.totals.specs.declared.Totals.{Totals};
 ghost use Rattle.walk.specs.ChainKind.{ChainKind};
-ghost use Rattle.walk.specs.ChainWalk.{Sourced, Offered, SumsMore, ChainLaws, Stands, Begins, Walked};
-ghost use Rattle.walk.specs.OnePass.{Stepped};
+ghost use Rattle.walk.specs.OnePass.{Stands, Stepped, Walked};
+ghost use Rattle.walk.specs.ChainWalk.{Sourced, Offered, SumsMore, ChainLaws, Begins};
 
 use super::headed::Headed;
 use super::marks;
@@ -111,7 +111,8 @@ fn step_along<C: Chain, S: Summing>(
 }
 
 // The chain, from slot 0 to a zero or to the first question that is answered no. It ends: a step that goes on has marked a source that was not marked before
-// (question 7), and a file has fewer than MOST_SLOTS of them. How the sums and the state begin only `walk_file` knows.
+// (question 7), and a file has fewer than MOST_SLOTS of them. How the sums and the state begin only `walk_chains` knows, whose own they are: what a refused walk leaves in
+// them goes with it, and so is not said.
 pub(crate) fn walk_chain<C: Chain, S: Summing>(
     chain: C,
     file: &Headed,

@@ -4,7 +4,7 @@ ghost use Rattle.slot_file.specs.Questions.{head_asks};
 ghost use Rattle.slot_file.specs.Meaning.{AllYes};
 ghost use Rattle.slot_file.specs.Walk.{outcome, told};
 ghost use Rattle.slot_file.specs.Figures as figures;
-ghost use Rattle.walk.specs.FileWalked.{FileWalked};
+ghost use Rattle.walk.specs.OnePass.{FileWalked};
 
 use super::chain::walk_chain;
 use super::group_chain::Groups;

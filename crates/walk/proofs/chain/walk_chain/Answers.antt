@@ -4,7 +4,7 @@ use Rattle.std.proofs.lemmas.Result.{IfErr-at_err}
 use Rattle.slot_file.specs.Meaning.{Refuses}
 use Rattle.slot_file.proofs.Chains.{begun}
 use Rattle.questions.proofs.Telling.{handed_on}
-use Rattle.walk.specs.ChainWalk.{Walked}
+use Rattle.walk.specs.OnePass.{Walked}
 use Rattle.walk.proofs.Passing.{begun_with, ended_after, stepped, few}
 use Rattle.walk.proofs.chain.walk_chain.Goals as goal
 

@@ -1,7 +1,7 @@
 -- The walk stands on the chain, before each step and after it: the step's promise, and no more. A chain of different slots ends.
 use Rattle.std.proofs.Common.{◌-◌}
 use Rattle.slot_file.specs.Questions.{most_slots}
-use Rattle.walk.specs.ChainWalk.{Stands}
+use Rattle.walk.specs.OnePass.{Stands}
 use Rattle.walk.proofs.chain.walk_chain.Given as goal
 
 abbrev pub invariant-loop-at : goal.invariant-loop-at

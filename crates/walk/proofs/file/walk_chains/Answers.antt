@@ -9,7 +9,7 @@ use Rattle.slot_file.proofs.Chains.{one_chain}
 use Rattle.slot_file.proofs.Outcomes.{only}
 use Rattle.questions.proofs.Telling.{told_ok, told_err, handed_on}
 use Rattle.totals.proofs.Sums.{sums_of_none}
-use Rattle.walk.specs.FileWalked.{FileWalked}
+use Rattle.walk.specs.OnePass.{FileWalked}
 use Rattle.walk.specs.declared.state.State.{State}
 use Rattle.walk.proofs.ExactSums.{exact_sums}
 use Rattle.walk.proofs.Visits.{come_once}
@@ -96,6 +96,6 @@ returns g c =
       c = d;
       visited = record { chains = o; once = come_once s d q.before.1 q.before.2 q.chain; counted = counted };
       sums_are = q.holds.sums_are;
-      figures = λ e. figures_from s d (locomotive_laws.all_passed s p.c p.b 0 q.before q.chain) o counted (q.holds.sums_are e);
+      figures = λ e. figures_from s d (locomotive_laws.all_passed s p.c p.b 0 q.before q.chain) (q.holds.sums_are e) o counted;
       none_summed = q.holds.none_summed;
     }

@@ -1,7 +1,7 @@
 -- The head is refused, or the chains are walked of the same bytes.
 use Rattle.std.proofs.Common.{subst, List, ℕ}
 use Rattle.questions.proofs.Telling.{handed_on}
-use Rattle.walk.specs.FileWalked.{FileWalked}
+use Rattle.walk.specs.OnePass.{FileWalked}
 use Rattle.walk.proofs.file.walk_file.Goals as goal
 
 pub returns-in_err-file : goal.returns-in_err-file
