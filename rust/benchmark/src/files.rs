@@ -19,9 +19,16 @@ pub struct Measured {
     pub path: PathBuf,
 }
 
-/// The names of the files that growth and the ratio to be judged are taken from.
+/// The names of the files that growth is taken from.
 pub const SMALL: &str = "mix of 64";
 pub const LARGE: &str = "mix of 1,024";
+
+const EMPTY: &str = "empty file";
+const STORES: &str = "stores of 1,024";
+const GROUPS: &str = "groups of 1,024";
+
+/// The names of the files that are held to the goal.
+pub const HELD: [&str; 4] = [EMPTY, LARGE, STORES, GROUPS];
 
 /// A plant of so many slots. Of each 63 behind slot 0, 9 are groups, 5 with six coefficient slots of
 /// their own and 4 that share those, 21 are store records, as many of each kind, and 3 locomotives.
@@ -61,11 +68,11 @@ fn sizes() -> [(&'static str, Size); 6] {
         ..NONE
     };
     [
-        ("empty file", mix(1)),
+        (EMPTY, mix(1)),
         (SMALL, mix(64)),
         (LARGE, mix(1_024)),
-        ("stores of 1,024", stores),
-        ("groups of 1,024", groups),
+        (STORES, stores),
+        (GROUPS, groups),
         ("locomotives of 1,024", locomotives),
     ]
 }

@@ -66,6 +66,7 @@ fn measure() -> Result<bool, String> {
         milliseconds.ratio()
     );
     println!();
+    goals::tell_row(milliseconds);
     Ok(goals::tell_goals(&rows))
 }
 
