@@ -87,7 +87,7 @@ fn take_source<C: Chain, S: Summing>(
 }
 
 // A step of the walk: the source of the link where it stands. After it the sums are the exact sums of the sources passed so far. The laws are a clause and no member of
-// the trait, whose ghosts may not cite proofs; that the walk stands there only the walk knows.
+// the trait, whose ghosts may not cite proofs; that the walk stands there and goes on, and what a source adds to its sums, only the walk knows.
 fn step_along<C: Chain, S: Summing>(
     chain: C,
     file: &Headed,
