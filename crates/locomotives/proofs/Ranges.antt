@@ -8,6 +8,7 @@ pub record Ranged (l : Locomotive) : Type 0 where
   pub model : (1 ≤ l.model) × (l.model ≤ 4)
   pub share : (k : ℕ) → k < mode_count → get_or l.shares k 0 ≤ 1000
   pub hours : l.hours ≤ 8784
+  pub zone : (1 ≤ l.zone) × (l.zone ≤ 3)
 
 pub ranged : (l : Locomotive) → locomotive_in_range l ≡ true → Ranged l
 unfolding locomotive_in_range shares_in_range
@@ -17,4 +18,5 @@ ranged l h =
       model = (leb-true 1 l.model (t 0), leb-true l.model 4 (t 1));
       share = λ k p. leb-true _ 1000 (all_to_at mode_count (λ (k : ℕ). leb (get_or l.shares k 0) 1000) (t 2) k p);
       hours = leb-true l.hours 8784 (t 3);
+      zone = (leb-true 1 l.zone (t 5), leb-true l.zone 3 (t 6));
     }

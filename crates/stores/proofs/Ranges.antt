@@ -9,6 +9,8 @@ use Rattle.store_records.specs.declared.records.Aspiration.{Aspiration}
 
 pub record RangedBulk (b : Bulk) : Type 0 where
   pub dust : (1 ≤ b.dust) × (b.dust ≤ 3)
+  pub material : (1 ≤ b.material) × (b.material ≤ 9)
+  pub openness : (1 ≤ b.openness) × (b.openness ≤ 7)
   pub amount : b.amount ≤ 1000000
 
 pub bulk : (b : Bulk) → bulk_in_range b ≡ true → RangedBulk b
@@ -17,17 +19,24 @@ bulk b h =
     let t = nth (bulk_tests b) h in
     record {
       dust = (leb-true 1 b.dust (t 0), leb-true b.dust 3 (t 1));
+      material = (leb-true 1 b.material (t 3), leb-true b.material 9 (t 4));
+      openness = (leb-true 1 b.openness (t 7), leb-true b.openness 7 (t 8));
       amount = leb-true b.amount 1000000 (t 9);
     }
 
 pub record RangedHandling (h : Handling) : Type 0 where
+  pub tested : bulk_in_range h.bulk ≡ true
   pub bulk : RangedBulk h.bulk
+  pub drop : (1 ≤ h.drop) × (h.drop ≤ 8)
 
 pub handling : (h : Handling) → handling_in_range h ≡ true → RangedHandling h
 unfolding handling_in_range
-handling h p = record { bulk = bulk h.bulk (nth (handling_tests h) p 0) }
+handling h p =
+    let t = nth (handling_tests h) p in
+    record { tested = t 0; bulk = bulk h.bulk (t 0); drop = (leb-true 1 h.drop (t 1), leb-true h.drop 8 (t 2)) }
 
 pub record RangedStanding (s : Standing) : Type 0 where
+  pub tested : bulk_in_range s.bulk ≡ true
   pub bulk : RangedBulk s.bulk
   pub k6 : s.k6 ≤ 200
 
@@ -35,7 +44,7 @@ pub standing : (s : Standing) → standing_in_range s ≡ true → RangedStandin
 unfolding standing_in_range
 standing s p =
     let t = nth (standing_tests s) p in
-    record { bulk = bulk s.bulk (t 0); k6 = leb-true s.k6 200 (t 1) }
+    record { tested = t 0; bulk = bulk s.bulk (t 0); k6 = leb-true s.k6 200 (t 1) }
 
 pub record RangedAspiration (a : Aspiration) : Type 0 where
   pub dust : (1 ≤ a.dust) × (a.dust ≤ 3)

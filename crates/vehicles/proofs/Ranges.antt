@@ -16,7 +16,7 @@ distances : (d : Distances) → distances_in_range d ≡ true → DistancesInRan
 unfolding distances_in_range
 distances d h = record { nearest = leb-true _ _ (left _ _ h); farthest = leb-true _ _ (right _ _ h) }
 
-days : (l : List ℕ) → days_in_range l ≡ true → (m : ℕ) → m < 12 → get_or l m 0 ≤ 31
+pub days : (l : List ℕ) → days_in_range l ≡ true → (m : ℕ) → m < 12 → get_or l m 0 ≤ 31
 unfolding days_in_range
 days l h m p =
     le_trans
@@ -35,7 +35,7 @@ ranged g h =
       idle = leb-true _ _ (t 10);
       outward = distances g.outward (t 11);
       inward = distances g.inward (t 12);
-      days = days g.days (t 13);
+      days = t 13;
       timed = leb-true _ _ (t 14);
     }
 

@@ -1,11 +1,11 @@
 -- What inner functions compute: the rule's fractions as whole numbers of parts. The proofs show that they are the fractions of Rules.
-use Rattle.std.specs.Prelude.{ℕ, ◌+◌, ◌*◌, ◌/◌, ◌<◌, ◌≤◌, List, eqb, get_or, Ok}
+use Rattle.std.specs.Prelude.{ℕ, ◌+◌, ◌*◌, ◌/◌, ◌<◌, ◌≤◌, ◌≡◌, true, List, eqb, get_or, Ok}
 use Rattle.sums.specs.Choice.{if_then_else, sum_to, list_to}
 use Rattle.sums.specs.Figures.{tonne_parts, gram_parts, annual_of, peak_of}
 use Rattle.sums.specs.declared.answer.Emission.{Emission}
 use Rattle.sums.specs.Answer.{refused_by}
 use Rattle.sums.specs.declared.answer.Reason.TheVariants.{OutOfRange, SootOrLead}
-use Rattle.vehicle_fields.specs.Fields.{no_minute, no_kilometre, no_coefficients, source_in_range}
+use Rattle.vehicle_fields.specs.Fields.{no_minute, no_kilometre, no_coefficients, days_in_range, source_in_range}
 use Rattle.vehicle_fields.specs.SootAndLead.{zero_where_due}
 use Rattle.vehicle_factors.specs.Factors.{standard_factors}
 use Rattle.vehicle_factors.specs.declared.Factors.{Factors}
@@ -129,7 +129,7 @@ pub record GroupInRange (g : Group) : Type 0 where
   pub idle : g.idle.0 ≤ 250
   pub outward : DistancesInRange g.outward
   pub inward : DistancesInRange g.inward
-  pub days : (m : ℕ) → m < 12 → get_or g.days m 0 ≤ 31
+  pub days : days_in_range g.days ≡ true
   pub timed : g.timed.0 ≤ 250
 
 pub record CoefficientsInRange (k : Coefficients) : Type 0 where
