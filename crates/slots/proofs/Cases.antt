@@ -1,10 +1,11 @@
--- The number of a store record's read is that of questions 8 and 9, and its values are the record's where that is 0: by the kind, and whether its tests hold. Assumes
--- nothing.
-use Rattle.std.proofs.Common.{◌≡◌, refl, sym, ap, ◌∙◌, Bool, true, false, ◌&&◌, ◌||◌, List, [], ℕ, eqb, get_or, eqb-true, Result, Ok, Err, MatchResult, IsOkAnd}
+-- The number of a store record's read is that of questions 8 and 9, and its values are the record's where that is 0: by the kind, and whether its tests hold; and what is
+-- made of a read. Assumes nothing.
+use Rattle.std.proofs.Common.{◌≡◌, refl, sym, ap, ◌∙◌, Bool, true, false, ◌&&◌, ◌||◌, List, [], ℕ, eqb, get_or, eqb-true, Result, Ok, Err, MatchResult, IsOkAnd, IsErrAnd}
 use Rattle.sums.specs.declared.answer.Reason.{Reason}
 use Rattle.sums.specs.Choice.{if_then_else}
 use Rattle.slots.specs.Bytes.{byte_at, number_of}
-use Rattle.slots.specs.Layout.{handling_of, standing_of, aspiration_of, store_kind, by_kind, store_of, store_good, slot_read, store_read, store_fields, read_number, read_values, StoreReads}
+use Rattle.slots.specs.Layout.{handling_of, standing_of, aspiration_of, store_kind, by_kind, store_of, store_good, slot_read, with_fields, store_read, store_fields, read_number, read_values, StoreReads}
+use Rattle.slots.specs.declared.slot.RefusedSlot.{RefusedSlot}
 use Rattle.slots.specs.declared.store.StoreRecord.{StoreRecord}
 use Rattle.slots.specs.declared.store.StoreRecord.TheVariants.{Handling, Standing, Aspiration}
 
@@ -48,3 +49,11 @@ mapped f P true true x r (Ok y) e c s = ap Ok (s y (rw e at c))
 mapped f P true true x r (Err z) e c s = absurd (rw e at c)
 mapped f P true false x r m e c s = rw e at c
 mapped f P false good x r m e c s = rw e at c
+
+-- where the fields of a refused slot are dropped, the read by its reason alone is left
+pub reason_alone : {A : Type 0} (x : A) (P : RefusedSlot A → Reason → Type 0) (r : Result A Reason) (d : Result A (RefusedSlot A)) (m : Result A Reason) → d ≡ with_fields x r
+    → MatchResult d (λ y. m ≡ Ok y) (λ e. IsErrAnd m (P e)) → ((e : RefusedSlot A) (y : Reason) → P e y → y ≡ e.reason) → m ≡ r
+unfolding with_fields
+reason_alone x P (Ok y) d m e c s = rw e at c
+reason_alone x P (Err z) d (Ok y) e c s = absurd (rw e at c)
+reason_alone x P (Err z) d (Err y) e c s = ap Err (s (record { reason = z; fields = x }) y (rw e at c))

@@ -17,6 +17,7 @@ use Rattle.store_records.specs.declared.records.Aspiration as aspiration
 use Rattle.locomotive_fields.specs.Fields.{mode_count, locomotive_in_range}
 use Rattle.locomotive_fields.specs.declared.fields.Locomotive.{Locomotive}
 use Rattle.slots.specs.Bytes.{byte_at, u16_at, u32_at, i16_at, zero_from, number_of}
+use Rattle.slots.specs.declared.slot.RefusedSlot.{RefusedSlot}
 use Rattle.slots.specs.declared.header.Header.{Header}
 use Rattle.slots.specs.declared.group.GroupSlot.{GroupSlot}
 use Rattle.slots.specs.declared.coefficients.CoefficientSlot.{CoefficientSlot}
@@ -32,6 +33,11 @@ next_of t = u16_at t 0
 -- answered no
 unfoldable pub slot_read : {A : Type 0} → Bool → Bool → A → Result A Reason
 slot_read kind good x = if_then_else kind (if_then_else good (Ok x) (Err OutOfRange)) (Err WrongKind)
+
+-- and of a slot that is refused its fields, x, too
+unfoldable pub with_fields : {A : Type 0} → A → Result A Reason → Result A (RefusedSlot A)
+with_fields x (Ok y) = Ok y
+with_fields x (Err e) = Err (record { reason = e; fields = x })
 
 -- **Slot 0**: "8..31 the twelve monthly mean temperatures as signed 16-bit tenths of a degree Celsius, January first"
 unfoldable pub temperatures_of : List ℕ → List ℤ
@@ -93,8 +99,8 @@ first_of t = u16_at t 34
 unfoldable pub group_slot_of : List ℕ → GroupSlot
 group_slot_of t = record { group = group_of t; next = next_of t; first = first_of t }
 
-unfoldable pub group_read : List ℕ → Result GroupSlot Reason
-group_read t = slot_read (group_kind t) (group_good t (group_of t)) (group_slot_of t)
+unfoldable pub group_read : List ℕ → Result GroupSlot (RefusedSlot GroupSlot)
+group_read t = with_fields (group_slot_of t) (slot_read (group_kind t) (group_good t (group_of t)) (group_slot_of t))
 
 -- **Coefficients**: "from 4 seven 4-byte numbers ...: warm-up per minute in warm, transitional, cold period; run per kilometre in the same three; idle per minute"
 unfoldable pub coefficients_of : List ℕ → Coefficients
@@ -120,8 +126,8 @@ pollutant_of t = byte_at t 3
 unfoldable pub coefficient_slot_of : List ℕ → CoefficientSlot
 coefficient_slot_of t = record { pollutant = pollutant_of t; coefficients = coefficients_of t; next = next_of t }
 
-unfoldable pub coefficients_read : List ℕ → Result CoefficientSlot Reason
-coefficients_read t = slot_read (coefficients_kind t) (coefficients_good t (coefficients_of t)) (coefficient_slot_of t)
+unfoldable pub coefficients_read : List ℕ → Result CoefficientSlot (RefusedSlot CoefficientSlot)
+coefficients_read t = with_fields (coefficient_slot_of t) (slot_read (coefficients_kind t) (coefficients_good t (coefficients_of t)) (coefficient_slot_of t))
 
 -- **Store record**: "3 dust code ... 4..5 store number ... Handling and standing: 6 material ... 8..9 wind ... 10..11 moisture ... 12..13 grain ... 14 openness ... 20..23 amount"
 unfoldable pub bulk_of : List ℕ → Bulk
@@ -231,5 +237,5 @@ locomotive_kind t = eqb (byte_at t 2) 6
 unfoldable pub locomotive_slot_of : List ℕ → LocomotiveSlot
 locomotive_slot_of t = record { locomotive = locomotive_of t; next = next_of t }
 
-unfoldable pub locomotive_read : List ℕ → Result LocomotiveSlot Reason
-locomotive_read t = slot_read (locomotive_kind t) (locomotive_good t (locomotive_of t)) (locomotive_slot_of t)
+unfoldable pub locomotive_read : List ℕ → Result LocomotiveSlot (RefusedSlot LocomotiveSlot)
+locomotive_read t = with_fields (locomotive_slot_of t) (slot_read (locomotive_kind t) (locomotive_good t (locomotive_of t)) (locomotive_slot_of t))

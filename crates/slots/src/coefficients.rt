@@ -3,10 +3,9 @@ ghost use Rattle.std.specs.Prelude.{◌≡◌};
 ghost use Rattle.slots.specs.Bytes.{slot_of};
 ghost use Rattle.slots.specs.Layout.{coefficients_of, coefficients_good, coefficient_slot_of, coefficients_read};
 
-use super::slot::{Content, Slot};
+use super::slot::{Content, RefusedSlot, Slot};
 use super::{numbers, slot};
 use std::array;
-use sums::Reason;
 use vehicle_fields::Coefficients;
 
 // The pollutant, the fields and the next index. The pollutant is a number: question 10 judges it, which the walk asks, so a slot with any is read.
@@ -51,8 +50,11 @@ impl Content for CoefficientSlot {
 
 // What slot n of a file holds as coefficients.
 #[tactic(auto, unfolding(crate::specs::Layout::coefficients_read, crate::specs::Layout::coefficient_slot_of))]
-pub fn read_coefficients(file: &[u8], n: usize) -> Result<CoefficientSlot, Reason>
+pub fn read_coefficients(
+    file: &[u8],
+    n: usize,
+) -> Result<CoefficientSlot, RefusedSlot<CoefficientSlot>>
     ensures { result ≡ coefficients_read (slot_of file.now n) }
 {
-    slot::read(file, n)
+    slot::read_or_fields(file, n)
 }

@@ -3,10 +3,9 @@ ghost use Rattle.std.specs.Prelude.{◌≡◌, ◌+◌, ◌≤◌};
 ghost use Rattle.slots.specs.Bytes.{slot_size, slot_of};
 ghost use Rattle.slots.specs.Layout.{days_of, distances_at, group_of, group_good, group_slot_of, group_read};
 
-use super::slot::{Content, Slot};
+use super::slot::{Content, RefusedSlot, Slot};
 use super::{numbers, slot};
 use std::array;
-use sums::Reason;
 use vehicle_fields::{Distances, Group, Minutes, Neutraliser};
 
 // The fields, the next index and the first coefficient slot.
@@ -89,8 +88,8 @@ impl Content for GroupSlot {
 // What slot n of a file holds as a group.
 #[tactic(auto, unfolding(crate::specs::Layout::group_read, crate::specs::Layout::group_slot_of))]
 #[inline(always)]
-pub fn read_group(file: &[u8], n: usize) -> Result<GroupSlot, Reason>
+pub fn read_group(file: &[u8], n: usize) -> Result<GroupSlot, RefusedSlot<GroupSlot>>
     ensures { result ≡ group_read (slot_of file.now n) }
 {
-    slot::read(file, n)
+    slot::read_or_fields(file, n)
 }

@@ -3,7 +3,7 @@ ghost use Rattle.std.specs.Prelude.{◌≡◌};
 ghost use Rattle.slots.specs.Bytes.{slot_of};
 ghost use Rattle.slots.specs.Layout.{temperatures_of, header_of};
 
-use super::slot::{SLOT_SIZE, Slot};
+use super::slot::Slot;
 use super::{numbers, slot};
 use std::array;
 
@@ -39,7 +39,7 @@ fn temperatures_of(t: &Slot) -> [i16; 12]
 pub fn read_header(file: &[u8]) -> Header
     ensures { result ≡ header_of (slot_of file.now 0) }
 {
-    let t = &slot::slot_at(file, 0).copied().unwrap_or([0; SLOT_SIZE]);
+    let t = &slot::bytes_of(file, 0);
     Header {
         format: numbers::u16_at(t, 0),
         count: numbers::u16_at(t, 2),

@@ -13,5 +13,5 @@ pub use coefficients::{CoefficientSlot, read_coefficients};
 pub use group::{GroupSlot, read_group};
 pub use header::{Header, Heads, read_header};
 pub use locomotive::{LocomotiveSlot, read_locomotive};
-pub use slot::{SLOT_SIZE, next_of};
+pub use slot::{RefusedSlot, SLOT_SIZE, next_of};
 pub use store::{StoreRecord, read_store};

@@ -3,11 +3,10 @@ ghost use Rattle.std.specs.Prelude.{◌≡◌};
 ghost use Rattle.slots.specs.Bytes.{slot_of};
 ghost use Rattle.slots.specs.Layout.{shares_of, locomotive_of, locomotive_good, locomotive_slot_of, locomotive_read};
 
-use super::slot::{Content, Slot};
+use super::slot::{Content, RefusedSlot, Slot};
 use super::{numbers, slot};
 use locomotive_fields::{Locomotive, MODES};
 use std::array;
-use sums::Reason;
 
 // The fields and the next index.
 #[derive(Clone, Copy)]
@@ -63,8 +62,8 @@ impl Content for LocomotiveSlot {
 // What slot n of a file holds as a locomotive.
 #[tactic(auto, unfolding(crate::specs::Layout::locomotive_read, crate::specs::Layout::locomotive_slot_of))]
 #[inline(always)]
-pub fn read_locomotive(file: &[u8], n: usize) -> Result<LocomotiveSlot, Reason>
+pub fn read_locomotive(file: &[u8], n: usize) -> Result<LocomotiveSlot, RefusedSlot<LocomotiveSlot>>
     ensures { result ≡ locomotive_read (slot_of file.now n) }
 {
-    slot::read(file, n)
+    slot::read_or_fields(file, n)
 }

@@ -1,7 +1,7 @@
 // A slot's bytes, its next index, and what it holds.
 ghost use Rattle.std.specs.Prelude.{◌≡◌, ℕ, List, Bool, eqb, replicate, MatchOption};
 ghost use Rattle.slots.specs.Bytes.{slot_size, byte_at, slot_of};
-ghost use Rattle.slots.specs.Layout.{next_of, slot_read};
+ghost use Rattle.slots.specs.Layout.{next_of, slot_read, with_fields};
 
 use super::numbers;
 use sums::Reason;
@@ -16,6 +16,14 @@ pub(crate) fn slot_at(file: &[u8], n: usize) -> Option<&Slot>
 {
     let (slots, _) = file.as_chunks();
     slots.get(n)
+}
+
+// Those bytes, or the zeros.
+#[inline(always)]
+pub(crate) fn bytes_of(file: &[u8], n: usize) -> Slot
+    ensures { result ≡ slot_of file.now n }
+{
+    slot_at(file, n).copied().unwrap_or([0; SLOT_SIZE])
 }
 
 // The next index of slot n. Of a slot that the file does not have it is 0 and no `None`: such a slot reads as zero, and each caller has asked question 6.
@@ -52,6 +60,13 @@ pub(crate) trait Content: Copy {
     ghost kind_is_named: { KIND ≡ 0 → ⊥ };
 }
 
+// A slot that is refused: the question that refuses it, 8 or 9, and what its fields are all the same. Of a slot that the file does not have they are those of zeros.
+#[derive(Clone, Copy)]
+pub struct RefusedSlot<C> {
+    pub reason: Reason,
+    pub fields: C,
+}
+
 // What slot n holds, or the question that it is refused by: 8 or 9. Inlined, as what
 // reads a source's slot is: of a content that the caller drops only what is tested is read.
 #[tactic(auto, unfolding(crate::specs::Layout::slot_read, sums::specs::Choice::if_then_else))]
@@ -69,4 +84,24 @@ pub(crate) fn read<C: Content>(file: &[u8], n: usize) -> Result<C, Reason>
     } else {
         Err(Reason::OutOfRange)
     }
+}
+
+// The fields of slot n, whatever its kind. Only of a slot that is refused are they read so, and a caller that drops them does not read them.
+#[cold]
+fn fields_of<C: Content>(file: &[u8], n: usize) -> C
+    ensures { result ≡ C.fields (slot_of file.now n) }
+{
+    C::fields(&bytes_of(file, n))
+}
+
+// What `read` answers, with the fields of a slot that is refused.
+#[tactic(auto, unfolding(crate::specs::Layout::with_fields))]
+#[inline(always)]
+pub(crate) fn read_or_fields<C: Content>(file: &[u8], n: usize) -> Result<C, RefusedSlot<C>>
+    ensures { let t = slot_of file.now n in result ≡ with_fields (C.fields t) (slot_read (eqb (byte_at t 2) C.KIND) (C.good t (C.fields t)) (C.fields t)) }
+{
+    read(file, n).map_err(|reason| RefusedSlot {
+        reason,
+        fields: fields_of(file, n),
+    })
 }

@@ -35,10 +35,9 @@ impl Chain for Groups {
         h.heads.groups
     }
 
-    #[tactic(auto, unfolding(slots::specs::Layout::group_read))]
     #[inline(always)]
     fn read(bytes: &[u8], n: usize) -> Result<GroupSlot, Reason> {
-        slots::read_group(bytes, n)
+        slots::read_group(bytes, n).map_err(|refused| refused.reason)
     }
 
     #[inline(always)]

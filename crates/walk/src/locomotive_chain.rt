@@ -31,10 +31,9 @@ impl Chain for Locomotives {
         h.heads.locomotives
     }
 
-    #[tactic(auto, unfolding(slots::specs::Layout::locomotive_read))]
     #[inline(always)]
     fn read(bytes: &[u8], n: usize) -> Result<LocomotiveSlot, Reason> {
-        slots::read_locomotive(bytes, n)
+        slots::read_locomotive(bytes, n).map_err(|refused| refused.reason)
     }
 
     #[inline(always)]

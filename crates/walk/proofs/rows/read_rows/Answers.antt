@@ -4,7 +4,7 @@ use Rattle.sums.proofs.Choices.{filled, list_to_is}
 use Rattle.sums.specs.declared.answer.Refusal.{Refusal}
 use Rattle.vehicle_fields.specs.Fields.{pollutant_count, no_coefficients}
 use Rattle.slots.specs.Bytes.{slot_of}
-use Rattle.slots.specs.Layout.{next_of, coefficients_of, coefficients_kind, coefficients_good, coefficient_slot_of, coefficients_read}
+use Rattle.slots.specs.Layout.{next_of, coefficients_of, coefficients_kind, coefficients_good, coefficient_slot_of}
 use Rattle.slots.specs.declared.coefficients.CoefficientSlot.{CoefficientSlot}
 use Rattle.slot_file.specs.Sources.{coefficient_slot, group_at}
 use Rattle.slot_file.specs.Questions.{slot_count, coefficient_holder, coefficient_asks, rows_asks, after_sixth}
@@ -38,25 +38,24 @@ returns-in_err-ask_row c =
     handed_on (RowsRead _ _ _ _) c.from_residual.ensures (refused a.file.now.bytes.now a.g c.loop-n.n (omega arith) i.yes (no_front a.file.now.bytes.now a.g c.loop-n.n (rw (i.holder_is, i.link_is) at f)))
 
 pub returns-in_err-row : goal.returns-in_err-row
-unfolding coefficients_read
 returns-in_err-row c =
     let a = c.args in
     let i = c.loop-n.invariant in
     let t = slot_of a.file.now.bytes.now c.loop-n.link.slot in
     let y = told_ok (row_asked a.file.now.bytes.now c.loop-n.link.holder c.loop-n.link.slot) c.ask_row.ensures c.in_ok-ask_row.was in
-    let f = slot_err (coefficients_kind t) (coefficients_good t (coefficients_of t)) c.loop-n.link.slot (coefficient_slot_of t) c.ask_slot.ensures (rw c.from-k.ensures at c.read_coefficients.ensures) c.in_err-row.was in
+    let f = slot_err (coefficients_kind t) (coefficients_good t (coefficients_of t)) c.loop-n.link.slot (coefficient_slot_of t) c.ask_slot.ensures (rw c.from-k.ensures at c.read_row.ensures) c.in_err-row.was in
     handed_on (RowsRead _ _ _ _) c.from_residual-in_err-row.ensures
     (refused a.file.now.bytes.now a.g c.loop-n.n (omega arith) i.yes (no_slot a.file.now.bytes.now a.g c.loop-n.n (rw i.link_is at y) (rw i.link_is at f)))
 
 pub returns-in_err-ask : goal.returns-in_err-ask
-unfolding coefficients_read coefficient_slot_of
+unfolding coefficient_slot_of
 returns-in_err-ask c =
     let a = c.args in
     let i = c.loop-n.invariant in
     let k = c.loop-n.link.slot in
     let t = slot_of a.file.now.bytes.now k in
     let y = told_ok (row_asked a.file.now.bytes.now c.loop-n.link.holder k) c.ask_row.ensures c.in_ok-ask_row.was in
-    let r = slot_ok (coefficients_kind t) (coefficients_good t (coefficients_of t)) k (coefficient_slot_of t) c.ask_slot.ensures (rw c.from-k.ensures at c.read_coefficients.ensures) c.in_ok-row.was in
+    let r = slot_ok (coefficients_kind t) (coefficients_good t (coefficients_of t)) k (coefficient_slot_of t) c.ask_slot.ensures (rw c.from-k.ensures at c.read_row.ensures) c.in_ok-row.was in
     let f = told_err _ c.ask.ensures c.in_err-ask.was in
     let p = ap (λ (x : CoefficientSlot). x.pollutant) r.1 in
     handed_on (RowsRead _ _ _ _) c.from_residual-in_err-ask.ensures
@@ -69,7 +68,7 @@ bounds-reached-k c =
     omega (arith, a.file.now.short, ltb-true c.loop-n.link.slot (slot_count a.file.now.bytes.now) y.1.0)
 
 pub loop-n-preserved : goal.loop-n-preserved
-unfolding coefficients_read coefficient_slot_of coefficient_holder coefficient_slot marks_to
+unfolding coefficient_slot_of coefficient_holder coefficient_slot marks_to
 loop-n-preserved c =
     let a = c.args in
     let s = a.file.now.bytes.now in
@@ -77,7 +76,7 @@ loop-n-preserved c =
     let k = c.loop-n.link.slot in
     let t = slot_of s k in
     let y = told_ok (row_asked s c.loop-n.link.holder k) c.ask_row.ensures c.in_ok-ask_row.was in
-    let r = slot_ok (coefficients_kind t) (coefficients_good t (coefficients_of t)) k (coefficient_slot_of t) c.ask_slot.ensures (rw c.from-k.ensures at c.read_coefficients.ensures) c.in_ok-row.was in
+    let r = slot_ok (coefficients_kind t) (coefficients_good t (coefficients_of t)) k (coefficient_slot_of t) c.ask_slot.ensures (rw c.from-k.ensures at c.read_row.ensures) c.in_ok-row.was in
     let u = told_ok _ c.ask.ensures c.in_ok-ask.was in
     let p = ap (λ (x : CoefficientSlot). x.pollutant) r.1 in
     record {
