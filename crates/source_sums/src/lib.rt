@@ -1,4 +1,4 @@
-// What a source gives, added to a file's sums.
+// What a source gives, added to a file's sums: to `Totals`, and in `lent` to numbers in memory that the caller lends.
 #![tactic(auto)]
 
 ghost use Rattle.std.specs.Prelude.{◌≡◌};
@@ -6,6 +6,8 @@ ghost use Rattle.vehicles.specs.Rules.{emission_count};
 ghost use Rattle.vehicles.specs.Parts.{answer_in};
 ghost use Rattle.locomotives.specs.Rules.{substance_count, locomotive_answer};
 ghost use Rattle.source_sums.specs.Added.{plus_answer, record_answer, plus_one};
+
+pub mod lent;
 
 use locomotive_fields::Locomotive;
 use slots::StoreRecord;

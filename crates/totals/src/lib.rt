@@ -4,6 +4,9 @@
 ghost use Rattle.std.specs.Prelude.{◌≡◌};
 ghost use Rattle.totals.specs.Totals.{no_sums, plus_in, plus_to_in, figures_in};
 
+pub mod lent;
+
+pub use lent::{add, add_all, none, rounded};
 use slot_file::COUNT;
 use sums::{AnnualSum, Emission, PeakSum};
 
