@@ -1,5 +1,5 @@
 // The substance codes of the listing, and their places in it.
-ghost use Rattle.std.specs.Prelude.{◌≡◌, ◌<◌, ◌≤◌, MatchOption};
+ghost use Rattle.std.specs.Prelude.{◌≡◌, ◌<◌, ◌≤◌, MatchOption, get_or};
 ghost use Rattle.slot_file.specs.Codes.{codes, code_count, place_of};
 
 pub const COUNT: usize = 10;
@@ -63,4 +63,11 @@ pub fn listing_codes() -> [u16; COUNT]
     ensures { result ≡ codes }
 {
     CODES
+}
+
+// The code at a place of the listing, or 0 past its end.
+pub fn code_at(place: usize) -> u16
+    ensures { result ≡ get_or codes place 0 }
+{
+    if place < COUNT { CODES[place] } else { 0 }
 }

@@ -3,7 +3,7 @@
 
 pub mod codes;
 
-pub use codes::{COUNT, listing_codes, place_of};
+pub use codes::{COUNT, code_at, listing_codes, place_of};
 
 // The slots and the bytes of a file at most, by question 1.
 pub const MOST_SLOTS: usize = 1_024;
