@@ -1,7 +1,7 @@
 // Prints the listing of the inventory file on standard input, or its refusal line.
 #![tactic(auto)]
 
-ghost use Rattle.std.specs.Prelude.{IfOk, OnOk, length};
+ghost use Rattle.std.specs.Prelude.{◌≡◌, ◌⊎◌, [], IfOk, OnOk, length};
 ghost use Rattle.std.specs.Io.KnownBytes.{Appends};
 ghost use Rattle.slot_file.specs.Figures.{answer};
 ghost use Rattle.slot_file.specs.Listing.{printed};
@@ -28,6 +28,19 @@ fn read_file<'a, R: Read>(input: &mut R, room: &'a mut [u8]) -> io::Result<&'a [
     Ok(&room[..n])
 }
 
+// The file on a reader, or nothing: an input that was not read to its end counts as empty, since a part of a file is no file; standard error says why.
+fn file_or_nothing<'a, R: Read>(input: &mut R, rt: &impl Eprint, room: &'a mut [u8]) -> &'a [u8]
+    ensures { (result.now ≡ []) ⊎ IsTaken (R.remaining input.old) (R.remaining input.new) (length room.old) result.now }
+{
+    match read_file(input, room) {
+        Ok(file) => file,
+        Err(e) => {
+            let _ = eprintln!(rt; "inventory: standard input: {e}");
+            &[]
+        }
+    }
+}
+
 // Writes the listing of a file, or its refusal line.
 fn show<W: Write>(out: &mut W, file: &[u8]) -> io::Result<()>
     ensures { OnOk result (Appends (W.contents out.old) (W.contents out.new) (printed (answer file.now))) }
@@ -42,14 +55,7 @@ fn main(rt: HostRuntime) {
         let _ = eprintln!(rt; "inventory: reads standard input: inventory < FILE");
     }
     let mut room = [0; ROOM];
-    // An input that was not read to its end counts as empty, since a part of a file is no file; standard error says why.
-    let file = match read_file(&mut rt.stdin(), &mut room) {
-        Ok(file) => file,
-        Err(e) => {
-            let _ = eprintln!(rt; "inventory: standard input: {e}");
-            &[]
-        }
-    };
+    let file = file_or_nothing(&mut rt.stdin(), &rt, &mut room);
     if let Err(e) = show(&mut rt.stdout(), file) {
         let _ = eprintln!(rt; "inventory: standard output: {e}");
     }
