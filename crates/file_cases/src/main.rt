@@ -59,9 +59,10 @@ fn answer(out: &mut Stdout, file: &[u8], buffer: u16) {
 // Answers the next case, if all of it is there.
 fn next_case(input: &mut Stdin, out: &mut Stdout) -> Option<()> {
     let mut head = [0; 6];
-    input.read_exact(&mut head).ok()?;
-    // 64 bytes more than the longest file, so that a file can be a slot too long, which question 1 refuses.
+    // 64 bytes more than the longest file, so that a file can be a slot too long, which question 1 refuses. Made before the first return: behind it the compiler clears so
+    // large an array twice.
     let mut room = [0; 65_600];
+    input.read_exact(&mut head).ok()?;
     let length = usize::try_from(LE::read_u32(&head)).ok()?;
     let file = room.get_mut(..length)?;
     input.read_exact(file).ok()?;

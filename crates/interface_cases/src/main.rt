@@ -61,9 +61,10 @@ fn run(out: &mut Stdout, head: Head, file: &[u8], all: &Room) {
 // Runs the next case, if all of it is there.
 fn next_case(input: &mut Stdin, out: &mut Stdout) -> Option<()> {
     let mut start = [0; 44];
+    // Made before the first return: behind it the compiler clears so large an array twice.
+    let mut all = [0; slot_file::MOST_BYTES];
     input.read_exact(&mut start).ok()?;
     let head = Head::from(&start);
-    let mut all = [0; slot_file::MOST_BYTES];
     input.read_exact(all.get_mut(..head.length)?).ok()?;
     label(out, &start);
     run(out, head, &all[..head.length], &all);
