@@ -15,7 +15,7 @@ const SUMS: usize = 2 * COUNT;
 
 const NUMBERS: usize = 2 * SUMS;
 
-// The sum at a place among both columns'.
+// The sum at a place among both columns'. Here and below the callers have tested once that the memory has all sums, and the places are those of codes.
 fn sum_at(totals: &[u64], place: usize) -> Words
     requires { (length totals.now ≡ number_count) × (place < sum_count) }
     ensures { result ≡ words_at totals.now place }
