@@ -1,7 +1,7 @@
 // Prints the listing of the inventory file on standard input, or its refusal line.
 #![tactic(auto)]
 
-ghost use Rattle.std.specs.Prelude.{◌≡◌, ◌⊎◌, [], IfOk, OnOk, length};
+ghost use Rattle.std.specs.Prelude.{◌≡◌, ◌⊎◌, [], IfOk, OnOk, MatchResult, length};
 ghost use Rattle.std.specs.Io.KnownBytes.{Appends};
 ghost use Rattle.slot_file.specs.Figures.{answer};
 ghost use Rattle.slot_file.specs.Listing.{printed};
@@ -28,17 +28,24 @@ fn read_file<'a, R: Read>(input: &mut R, room: &'a mut [u8]) -> io::Result<&'a [
     Ok(&room[..n])
 }
 
-// The file on a reader, or nothing: an input that was not read to its end counts as empty, since a part of a file is no file; standard error says why.
-fn file_or_nothing<'a, R: Read>(input: &mut R, rt: &impl Eprint, room: &'a mut [u8]) -> &'a [u8]
-    ensures { (result.now ≡ []) ⊎ IsTaken (R.remaining input.old) (R.remaining input.new) (length room.old) result.now }
+// The file that was read, or nothing: an input that was not read to its end counts as empty, since a part of a file is no file; standard error says why.
+fn file_or_nothing<'a>(read: io::Result<&'a [u8]>, rt: &impl Eprint) -> &'a [u8]
+    ensures { MatchResult read.entry (λ file. result.now ≡ file.now) (λ _. result.now ≡ []) }
 {
-    match read_file(input, room) {
+    match read {
         Ok(file) => file,
         Err(e) => {
             let _ = eprintln!(rt; "inventory: standard input: {e}");
             &[]
         }
     }
+}
+
+// Of every reader: what it had left, or nothing.
+fn take_file<'a, R: Read>(input: &mut R, rt: &impl Eprint, room: &'a mut [u8]) -> &'a [u8]
+    ensures { (result.now ≡ []) ⊎ IsTaken (R.remaining input.old) (R.remaining input.new) (length room.old) result.now }
+{
+    file_or_nothing(read_file(input, room), rt)
 }
 
 // Writes the listing of a file, or its refusal line.
@@ -55,7 +62,7 @@ fn main(rt: HostRuntime) {
         let _ = eprintln!(rt; "inventory: reads standard input: inventory < FILE");
     }
     let mut room = [0; ROOM];
-    let file = file_or_nothing(&mut rt.stdin(), &rt, &mut room);
+    let file = take_file(&mut rt.stdin(), &rt, &mut room);
     if let Err(e) = show(&mut rt.stdout(), file) {
         let _ = eprintln!(rt; "inventory: standard output: {e}");
     }

@@ -1,4 +1,5 @@
--- More at a place changes the sum there and no other. So lent memory has, after an emission, the sums of `Totals` after it. Assumes nothing.
+-- More at a place changes the sum there and no other, and keeps how many numbers there are. So lent memory has, of nothing, after an emission and after those of a source,
+-- the sums that `Totals` has. Assumes nothing.
 use Rattle.std.proofs.Common.{ℕ, zero, suc, ◌+◌, ◌*◌, ◌<◌, ◌≤◌, arith, ◌≡◌, refl, ap, sym, ◌∙◌, Bool, true, false, List, ltb, eqb, get_or, set, length, length-set, get_or-set_same, get_or-set_other, eqb-true, eq-eqb, ltb-true, ltb-false}
 use Rattle.std.proofs.lemmas.List.{set_past}
 use borrow.Author.Tests.{eqb-false}
