@@ -55,7 +55,7 @@ module _ (f : Factors) (hf : factors_in_range f ≡ true) (g : Group) (ts : List
       let c = climate_of ts in
       let times = times_of f g.category in
       let t = times_in_range f hf g.category in
-      let r = ranged g hg in
+      let r = (ranged g hg).bounds in
       let h = coefficients k hk in
       let a : year_parts g k y (activity_of times g c.bands) * g.share * g.vehicles ≤ 8928000000000000000000 =
       year_most g k y r h (control_most f hf g p) (activity_of times g c.bands) (activity_in_range g r times t c.bands) ⊗ r.share ⊗ r.vehicles in

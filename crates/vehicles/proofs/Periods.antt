@@ -11,7 +11,7 @@ use Rattle.warmups.specs.Parts.{period_in, TimesInRange}
 use Rattle.warmups.proofs.Decided.{number_below, tenths_most}
 use Rattle.vehicles.specs.Parts.{in_period, day_run, month_period, month_warmup, month_run, month_idle, activity_of, warmup_parts, run_parts, GroupInRange, CoefficientsInRange, ActivityInRange}
 use Rattle.vehicles.specs.declared.activity.Activity.{Activity}
-use Rattle.vehicles.proofs.Ranges.{days, three}
+use Rattle.vehicles.proofs.Ranges.{three}
 
 module _ (g : Group) (bs : List ℕ) (f : ℕ → ℕ) where
   -- the totals of the periods in a list, with one month more, whose period is q
@@ -64,10 +64,10 @@ module _ (g : Group) (r : GroupInRange g) where
   day_run_lem = omega arith
 
   pub run_most : (m : ℕ) → m < 12 → month_run g m ≤ 2480000
-  run_most m p = days g.days r.days m p ⊗ day_run_lem
+  run_most m p = r.days m p ⊗ day_run_lem
 
   pub idle_most : (m : ℕ) → m < 12 → month_idle g m ≤ 15500
-  idle_most m p = days g.days r.days m p ⊗ (le_refl 2 ⊗ r.idle)
+  idle_most m p = r.days m p ⊗ (le_refl 2 ⊗ r.idle)
 
   pub idle_so_far : (n : ℕ) → n ≤ 12 → sum_to n (month_idle g) ≤ 186000
   idle_so_far n l = omega (arith, sum_to_bound 15500 (month_idle g) n (λ m q. idle_most m (omega arith)))
@@ -78,7 +78,7 @@ module _ (g : Group) (r : GroupInRange g) where
 
   module _ (times : List ℕ) (t : TimesInRange times) (bs : List ℕ) where
     pub warmup_most : (m : ℕ) → m < 12 → month_warmup times g bs m ≤ 9300
-    warmup_most m p = days g.days r.days m p ⊗ tenths_most times t g r.timed (get_or bs m 0)
+    warmup_most m p = r.days m p ⊗ tenths_most times t g r.timed (get_or bs m 0)
 
     pub warmup_so_far : (n p : ℕ) → n ≤ 12 → in_period g bs (month_warmup times g bs) n p ≤ 111600
     warmup_so_far n p l = omega (arith, alone g bs (month_warmup times g bs) 9300 n (λ m q. warmup_most m (omega arith)) p)

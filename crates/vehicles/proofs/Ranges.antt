@@ -10,7 +10,7 @@ use Rattle.vehicle_factors.specs.Factors.{factors_in_range}
 use Rattle.vehicle_factors.specs.declared.Factors.{Factors}
 use Rattle.vehicle_factors.proofs.Ranges.{ranged_factors}
 use Rattle.vehicles.specs.Rules.{percent_of}
-use Rattle.vehicles.specs.Parts.{DistancesInRange, GroupInRange, CoefficientsInRange}
+use Rattle.vehicles.specs.Parts.{DistancesInRange, GroupInRange, RangedGroup, CoefficientsInRange}
 
 distances : (d : Distances) → distances_in_range d ≡ true → DistancesInRange d
 unfolding distances_in_range
@@ -23,20 +23,23 @@ days l h m p =
     (leb-true _ _ (all_to_at 12 (λ (m : ℕ). leb (get_or l m 0) (get_or month_lengths m 0)) h m p))
     (each 31 month_lengths refl m)
 
-pub ranged : (g : Group) → group_in_range g ≡ true → GroupInRange g
+pub ranged : (g : Group) → group_in_range g ≡ true → RangedGroup g
 unfolding group_in_range
 ranged g h =
     let t = nth (group_tests g) h in
     record {
-      vehicles = leb-true _ _ (t 5);
-      leaving = le_trans (leb-true _ _ (t 6)) (leb-true _ _ (t 5));
-      share = leb-true _ _ (t 7);
-      neutraliser = record { running = leb-true _ _ (t 8); warming = leb-true _ _ (t 9) };
-      idle = leb-true _ _ (t 10);
-      outward = distances g.outward (t 11);
-      inward = distances g.inward (t 12);
+      bounds = record {
+        vehicles = leb-true _ _ (t 5);
+        leaving = le_trans (leb-true _ _ (t 6)) (leb-true _ _ (t 5));
+        share = leb-true _ _ (t 7);
+        neutraliser = record { running = leb-true _ _ (t 8); warming = leb-true _ _ (t 9) };
+        idle = leb-true _ _ (t 10);
+        outward = distances g.outward (t 11);
+        inward = distances g.inward (t 12);
+        days = days g.days (t 13);
+        timed = leb-true _ _ (t 14);
+      };
       days = t 13;
-      timed = leb-true _ _ (t 14);
     }
 
 pub three : (P : ℕ → Type 0) → P 0 → P 1 → P 2 → (p : ℕ) → p < 3 → P p

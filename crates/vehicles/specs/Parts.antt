@@ -129,8 +129,13 @@ pub record GroupInRange (g : Group) : Type 0 where
   pub idle : g.idle.0 ≤ 250
   pub outward : DistancesInRange g.outward
   pub inward : DistancesInRange g.inward
-  pub days : days_in_range g.days ≡ true
+  pub days : (m : ℕ) → m < 12 → get_or g.days m 0 ≤ 31
   pub timed : g.timed.0 ≤ 250
+
+-- and that no month has more days than are in it, which no bound needs
+pub record RangedGroup (g : Group) : Type 0 where
+  pub bounds : GroupInRange g
+  pub days : days_in_range g.days ≡ true
 
 pub record CoefficientsInRange (k : Coefficients) : Type 0 where
   pub warmup : (p : ℕ) → p < 3 → (get_or k.warmup p no_minute).0 ≤ 1000000

@@ -1,7 +1,7 @@
 // What has been tested to be in range, as types that hold its bounds: a group with the times it is worked out by, and a pollutant's coefficients and control factor.
 ghost use Rattle.std.specs.Prelude.{◌≤◌};
 ghost use Rattle.warmups.specs.Parts.{TimesInRange};
-ghost use Rattle.vehicles.specs.Parts.{GroupInRange, CoefficientsInRange};
+ghost use Rattle.vehicles.specs.Parts.{RangedGroup, CoefficientsInRange};
 
 use vehicle_factors::BANDS;
 use vehicle_fields::{Coefficients, Group};
@@ -11,7 +11,7 @@ use vehicle_fields::{Coefficients, Group};
 pub(crate) struct Sound {
     pub(crate) group: Group,
     pub(crate) times: [u16; BANDS],
-    ghost group_ranged: { GroupInRange group },
+    ghost group_ranged: { RangedGroup group },
     ghost times_ranged: { TimesInRange times },
 }
 

@@ -6,6 +6,6 @@ use Rattle.vehicles.proofs.year.Year.of.Goals as goal
 pub invariant_of-result : goal.invariant_of-result
 invariant_of-result c =
     let s = c.args.sound in record {
-      activity_ranged = rw c.activity.ensures (activity_in_range s.group s.group_ranged s.times s.times_ranged c.args.c.bands);
-      coldest_ranged = rw c.conditions_in.ensures (conditions_in_range s.times s.times_ranged s.group s.group_ranged.timed c.args.c.coldest);
+      activity_ranged = rw c.activity.ensures (activity_in_range s.group s.group_ranged.bounds s.times s.times_ranged c.args.c.bands);
+      coldest_ranged = rw c.conditions_in.ensures (conditions_in_range s.times s.times_ranged s.group s.group_ranged.bounds.timed c.args.c.coldest);
     }
